@@ -1,0 +1,4 @@
+pub mod GraphLemmas
+pub mod ListLemmas
+pub mod WalkLemmas
+pub mod FiniteLemmas
