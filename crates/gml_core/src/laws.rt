@@ -1,0 +1,37 @@
+//! What the definitions say together. Each function does nothing, and its contract is a law.
+
+ghost use Rattle.std.specs.Prelude.{◌≡◌, ℕ, ◌++◌, ◌∷◌, [], List, map, Some, None, Ok, ◌⊎◌};
+ghost use Rattle.gml_core.specs.declared.token.Token.{Token};
+ghost use Rattle.gml_core.specs.declared.fault.GmlFault.{GmlFault};
+ghost use Rattle.gml_core.specs.Trees.{Entries, Word, spelling};
+ghost use Rattle.gml_core.specs.Lexing.{next, AreTokens, IsFaultyToken};
+ghost use Rattle.gml_core.specs.Reading.{word, State, begin, Moves, IsBounded, IsText, IsFirstFault};
+
+/// Bytes have one list of tokens or a faulty token, and not both.
+pub fn one_cut()
+    ensures tokens { (bytes : List ℕ) (ts us : List Token) → AreTokens bytes ts → AreTokens bytes us → ts ≡ us }
+    ensures fault { (bytes : List ℕ) (f g : GmlFault) → IsFaultyToken bytes f → IsFaultyToken bytes g → f ≡ g }
+    ensures apart { (bytes : List ℕ) (ts : List Token) (f : GmlFault) → AreTokens bytes ts → IsFaultyToken bytes f → ⊥ }
+{}
+
+/// Bytes are a text of one tree, or have one first fault, and not both.
+pub fn one_answer()
+    ensures some { (bytes : List ℕ) → ((tree : Entries) × IsText bytes tree) ⊎ ((f : GmlFault) × IsFirstFault bytes f) }
+    ensures tree { (bytes : List ℕ) (t u : Entries) → IsText bytes t → IsText bytes u → t ≡ u }
+    ensures fault { (bytes : List ℕ) (f g : GmlFault) → IsFirstFault bytes f → IsFirstFault bytes g → f ≡ g }
+    ensures apart { (bytes : List ℕ) (t : Entries) (f : GmlFault) → IsText bytes t → IsFirstFault bytes f → ⊥ }
+{}
+
+/// No text goes on with the tokens up to the first fault, and none ends where the end is the first fault.
+pub fn none_goes_on()
+    ensures token { (bytes : List ℕ) (f : GmlFault) (first : IsFirstFault bytes f) (t : Token) (others : List Word) (tree : Entries)
+        → next bytes first.at ≡ Ok (Some t) → IsBounded tree → spelling tree ≡ map (word bytes) (first.tokens ++ t ∷ []) ++ others → ⊥ }
+    ensures end { (bytes : List ℕ) (f : GmlFault) (first : IsFirstFault bytes f) (tree : Entries)
+        → next bytes first.at ≡ Ok None → IsBounded tree → spelling tree ≡ map (word bytes) first.tokens → ⊥ }
+{}
+
+/// Before the first fault some text goes on: these tokens begin the text of a bounded tree.
+pub fn some_goes_on()
+    ensures { (bytes : List ℕ) (ts : List Token) (s : State) → Moves bytes begin ts s
+        → (others : List Word) × (tree : Entries) × IsBounded tree × (spelling tree ≡ map (word bytes) ts ++ others) }
+{}

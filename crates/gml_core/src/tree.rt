@@ -1,0 +1,173 @@
+//! Trees: lists of pairs of a key and a value.
+
+ghost use Rattle.std.specs.Prelude.{◌≡◌, ◌<◌, ◌^◌, [], ◌∷◌, ◌++◌, IfOk, OnOk, OnErr, length, slice_get, Some};
+ghost use Rattle.gml_core.specs.Trees.{Entries, entry, atom, none, push, listed, list as list_datum, int as int_atom, real as real_atom, str as str_atom};
+ghost use Rattle.gml_core.specs.Views.{datum, entry_view, view, entries};
+ghost use Rattle.gml_core.specs.Sound.{IsSound};
+
+use crate::text::text_of;
+use sqlite_items::Items;
+use st_ids::{NoMemory, Text};
+use std::alloc::{AllocError, Global};
+
+/// What a key stands for.
+#[cycle(tree)]
+#[derive(Drop)]
+pub enum Value {
+    Int(i64),
+    Real(Text),
+    Str(Text),
+    List(Tree),
+}
+
+/// A key, where it stands, and its value.
+#[cycle(tree)]
+#[derive(Drop)]
+pub struct Pair {
+    pub key: Text,
+    pub at: u32,
+    pub value: Value,
+}
+
+/// A list of pairs.
+#[cycle(tree)]
+#[derive(Drop)]
+pub struct Tree {
+    pub(crate) pairs: Items<Pair>,
+    alloc: Global,
+}
+
+pub fn make_pair(key: Text, at: u32, value: Value) -> Pair
+    ensures { entry_view result ≡ entry key at (datum value) }
+{
+    Pair { key, at, value }
+}
+
+pub fn make_tree(pairs: Items<Pair>, alloc: Global) -> Tree
+    ensures { view result ≡ entries pairs }
+{
+    Tree { pairs, alloc }
+}
+
+pub fn list_value(tree: Tree) -> Value
+    ensures { datum result ≡ list_datum (view tree) }
+{
+    Value::List(tree)
+}
+
+pub fn int_value(n: i64) -> Value
+    ensures { datum result ≡ atom (int_atom n) }
+{
+    Value::Int(n)
+}
+
+pub fn real_value(text: Text) -> Value
+    ensures { datum result ≡ atom (real_atom text) }
+{
+    Value::Real(text)
+}
+
+pub fn str_value(text: Text) -> Value
+    ensures { datum result ≡ atom (str_atom text) }
+{
+    Value::Str(text)
+}
+
+#[tactic(auto, using(crate::proofs::Pushes::entries_push))]
+fn push_pair(pairs: &mut Items<Pair>, pair: Pair) -> Result<(), AllocError>
+    ensures ok { OnOk result (entries pairs.new ≡ push (entries pairs.old) (entry_view pair)) }
+    ensures err { OnErr result (pairs.new ≡ pairs.old) }
+{
+    pairs.push(pair)
+}
+
+#[tactic(auto, using(crate::proofs::Pushes::length_listed))]
+fn count(pairs: &[Pair]) -> u32
+    requires { length (listed (entries pairs.now)) < 2 ^ 32 }
+    ensures { result ≡ length (listed (entries pairs.now)) }
+{
+    pairs.len() as u32
+}
+
+#[tactic(auto, using(crate::proofs::Pushes::length_listed, crate::proofs::Pushes::get_listed))]
+fn nth(pairs: &[Pair], i: u32) -> &Pair
+    requires { i < length (listed (entries pairs.now)) }
+    ensures entry { slice_get (listed (entries pairs.now)) i ≡ Some (entry_view result.now) }
+    ensures parts { entry_view result.now ≡ entry result.now.key result.now.at (datum result.now.value) }
+{
+    &pairs[i as usize]
+}
+
+impl Tree {
+    /// The empty list.
+    pub fn new(alloc: Global) -> Tree
+        ensures { view result ≡ none }
+    {
+        Tree {
+            pairs: Items::new(alloc),
+            alloc,
+        }
+    }
+
+    pub(crate) fn pairs(&self) -> &[Pair]
+        ensures { entries result.now ≡ view self.now }
+    {
+        self.pairs.as_slice()
+    }
+
+    /// The number of pairs.
+    pub fn len(&self) -> u32
+        requires { IsSound (view self.now) }
+        ensures { result ≡ length (listed (view self.now)) }
+    {
+        count(self.pairs())
+    }
+
+    /// Pair i of the list, from 0.
+    pub fn pair(&self, i: u32) -> &Pair
+        requires { i < length (listed (view self.now)) }
+        ensures entry { slice_get (listed (view self.now)) i ≡ Some (entry_view result.now) }
+        ensures parts { entry_view result.now ≡ entry result.now.key result.now.at (datum result.now.value) }
+
+        // A list inside a sound tree is sound.
+        ensures inner { (list : Entries) → IsSound (view self.now) → datum result.now.value ≡ list_datum list → IsSound list }
+    {
+        nth(self.pairs(), i)
+    }
+
+    fn put(&mut self, key: &[u8], value: Value) -> Result<(), NoMemory>
+        ensures ok { OnOk result (view self.new ≡ push (view self.old) (entry key.now 0 (datum value))) }
+        ensures err { OnErr result (view self.new ≡ view self.old) }
+    {
+        let key = text_of(self.alloc, key)?;
+        match push_pair(&mut self.pairs, make_pair(key, 0, value)) {
+            Ok(()) => Ok(()),
+            Err(_) => Err(NoMemory),
+        }
+    }
+
+    /// Appends a pair with an integer.
+    pub fn push_int(&mut self, key: &[u8], n: i64) -> Result<(), NoMemory>
+        ensures ok { OnOk result (view self.new ≡ push (view self.old) (entry key.now 0 (atom (int_atom n)))) }
+        ensures err { OnErr result (view self.new ≡ view self.old) }
+    {
+        self.put(key, int_value(n))
+    }
+
+    /// Appends a pair with a string.
+    pub fn push_str(&mut self, key: &[u8], text: &[u8]) -> Result<(), NoMemory>
+        ensures ok { OnOk result (view self.new ≡ push (view self.old) (entry key.now 0 (atom (str_atom text.now)))) }
+        ensures err { OnErr result (view self.new ≡ view self.old) }
+    {
+        let text = text_of(self.alloc, text)?;
+        self.put(key, str_value(text))
+    }
+
+    /// Appends a pair with a list.
+    pub fn push_list(&mut self, key: &[u8], list: Tree) -> Result<(), NoMemory>
+        ensures ok { OnOk result (view self.new ≡ push (view self.old) (entry key.now 0 (list_datum (view list)))) }
+        ensures err { OnErr result (view self.new ≡ view self.old) }
+    {
+        self.put(key, list_value(list))
+    }
+}
