@@ -14,3 +14,4 @@ pub mod RoundTrip
 pub mod Exact
 pub mod Alone
 pub mod Well
+pub mod Sizes

@@ -11,7 +11,7 @@ use Rattle.gml_core.specs.declared.token.Token.{Token}
 use Rattle.gml_core.specs.declared.fault.GmlFault.{GmlFault}
 use Rattle.gml_core.specs.Bytes.{is_word, begins_number, is_numeric, number_kind}
 use Rattle.gml_core.specs.Trees.{Entries, spelling}
-use Rattle.gml_core.specs.Lexing.{token, string_at, number_at, token_at, found, next_place, next, first_place, Leads}
+use Rattle.gml_core.specs.Lexing.{token, string_at, number_at, token_at, found, next_place, next, first_place, Leads, AreTokens, IsFaultyToken}
 use Rattle.gml_core.specs.Reading.{State, begin, step, word, fault_of, end_in, Moves, IsText, IsFirstFault}
 use Rattle.gml_core.proofs.Cuts.{Leads-push}
 use Rattle.gml_core.proofs.Walks.{moves_bounded}
@@ -87,7 +87,7 @@ next_behind bytes at =
     })
     (record { moves = λ t e. absurd cc })
 
-next_moves : (bytes : List ℕ) (at : ℕ) (t : Token) → next bytes at ≡ Ok (Some t) → (at < t.to) × (at < length bytes)
+pub next_moves : (bytes : List ℕ) (at : ℕ) (t : Token) → next bytes at ≡ Ok (Some t) → (at < t.to) × (at < length bytes)
 next_moves bytes at t e = (next_behind bytes at).moves t e
 
 -- ---- the answer
@@ -158,3 +158,21 @@ read_on (suc n) bytes at lt r =
 
 pub answer : (bytes : List ℕ) → ((tree : Entries) × IsText bytes tree) ⊎ ((f : GmlFault) × IsFirstFault bytes f)
 answer bytes = read_on (suc (length bytes)) bytes (first_place bytes) (omega arith) (record { tokens = []; state = begin; leads = refl; moves = refl })
+
+-- ---- the tokens
+
+cut_on : (n : ℕ) (bytes : List ℕ) (at : ℕ) (ts : List Token) → length bytes - at < n → Leads bytes (first_place bytes) ts at → ((us : List Token) × AreTokens bytes us) ⊎ ((f : GmlFault) × IsFaultyToken bytes f)
+cut_on zero bytes at ts lt leads = absurd (omega arith)
+cut_on (suc n) bytes at ts lt leads =
+    elim (comes_cases (next bytes at)) [
+      | inl some ↦
+          let moved = next_moves bytes at some.0 some.1 in
+          cut_on n bytes some.0.to (ts ++ some.0 ∷ []) (omega (arith, moved.0, moved.1)) (Leads-push bytes (first_place bytes) at ts some.0 leads some.1)
+      | inr others ↦ elim others [
+        | inl end ↦ inl (ts, (at, leads, end))
+        | inr bad ↦ inr (bad.0, (ts, at, leads, bad.1))
+      ]
+    ]
+
+pub cut : (bytes : List ℕ) → ((ts : List Token) × AreTokens bytes ts) ⊎ ((f : GmlFault) × IsFaultyToken bytes f)
+cut bytes = cut_on (suc (length bytes)) bytes (first_place bytes) [] (omega arith) refl

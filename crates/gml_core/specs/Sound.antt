@@ -3,11 +3,12 @@
 --   AreWell tree        its keys, reals and strings are well formed
 --   AreShort tree       each of its lists has fewer than 2^31 pairs
 --   IsSound tree        both, its lists nest at most 32 deep, and its integers are within 64 bits
+--   IsSoundDatum datum  the value may stand in a sound tree
 use Rattle.std.specs.Prelude.{◌≡◌, ◌<◌, ◌≤◌, ◌^◌, List, [], ◌∷◌, ◌++◌, ℕ, length, IsTrue, Ok}
 use Rattle.gml_core.specs.declared.token.TokenKind.{TokenKind}
 use Rattle.gml_core.specs.declared.token.TokenKind.TheVariants.{Key, Real, Str}
 use Rattle.gml_core.specs.Lexing.{gap, token, token_at}
-use Rattle.gml_core.specs.Trees.{Atom, int, real, str, Datum, atom, list, Entry, entry, Entries, none, more, listed, depth, max_depth, all_fit}
+use Rattle.gml_core.specs.Trees.{Atom, int, real, str, Datum, atom, list, Entry, entry, Entries, none, more, listed, depth, datum_depth, max_depth, all_fit, datum_fits}
 
 -- the bytes are one token of this kind
 abbrev pub IsSpelled : TokenKind → List ℕ → Type 0
@@ -56,3 +57,9 @@ pub record IsSound (tree : Entries) : Type 0 where
   pub fit : IsTrue (all_fit tree)
   pub well : AreWell tree
   pub short : AreShort tree
+
+pub record IsSoundDatum (datum : Datum) : Type 0 where
+  pub nests : datum_depth datum ≤ max_depth
+  pub fit : IsTrue (datum_fits datum)
+  pub well : IsWellDatum datum
+  pub short : IsShortDatum datum

@@ -9,6 +9,7 @@ ghost use Rattle.gml_core.specs.Reading.{word, State, begin, Moves, IsBounded, I
 
 /// Bytes have one list of tokens or a faulty token, and not both.
 pub fn one_cut()
+    ensures some { (bytes : List ℕ) → ((ts : List Token) × AreTokens bytes ts) ⊎ ((f : GmlFault) × IsFaultyToken bytes f) }
     ensures tokens { (bytes : List ℕ) (ts us : List Token) → AreTokens bytes ts → AreTokens bytes us → ts ≡ us }
     ensures fault { (bytes : List ℕ) (f g : GmlFault) → IsFaultyToken bytes f → IsFaultyToken bytes g → f ≡ g }
     ensures apart { (bytes : List ℕ) (ts : List Token) (f : GmlFault) → AreTokens bytes ts → IsFaultyToken bytes f → ⊥ }

@@ -1,9 +1,11 @@
 //! Cuts bytes into tokens.
 
-ghost use Rattle.std.specs.Prelude.{◌≡◌, ◌≢◌, ◌<◌, ◌≤◌, ◌+◌, ◌^◌, length, drop, true, IfOk, IfErr, IfSome, position, ◌==◌};
+ghost use Rattle.std.specs.Prelude.{◌≡◌, ◌≢◌, ◌<◌, ◌≤◌, ◌+◌, ◌^◌, length, drop, true, IfOk, IfErr, IfSome, MatchResult, ◌⊎◌, List, position, ◌==◌};
 ghost use Rattle.std.specs.List.{prefix_len};
 ghost use Rattle.std.specs.Char.{is_ascii_digit as digit};
 ghost use Rattle.gml_core.specs.Bytes as spec;
+ghost use Rattle.gml_core.specs.declared.token.Token.{Token};
+ghost use Rattle.gml_core.specs.declared.fault.GmlFault.{GmlFault};
 ghost use Rattle.gml_core.specs.Lexing.{gap, gap_from, token as spec_token, string_at, token_at, next, first_place, IsWithin, AreTokens, IsFaultyToken};
 
 use crate::fault::GmlFault;
@@ -285,11 +287,10 @@ impl Tokens {
     }
 }
 
-/// The tokens of the bytes, or the first that is faulty by itself.
-pub fn lex(alloc: Global, bytes: &[u8]) -> Result<Tokens, GmlFault>
+fn cut(alloc: Global, bytes: &[u8]) -> Result<Tokens, GmlFault>
     requires { length bytes.now < 2 ^ 32 }
-    ensures ok { IfOk result (AreTokens bytes.now) }
-    ensures err { IfErr result (λ e. e ≢ GmlFault.NoMemory → IsFaultyToken bytes.now e) }
+    ensures tokens { IfOk result (AreTokens bytes.now) }
+    ensures fault { IfErr result (λ e. e ≢ GmlFault.NoMemory → IsFaultyToken bytes.now e) }
 {
     let mut tokens = Vec::new(alloc);
     let mut at = first_place(bytes);
@@ -298,4 +299,20 @@ pub fn lex(alloc: Global, bytes: &[u8]) -> Result<Tokens, GmlFault>
         tokens.push(token)?;
     }
     Ok(Tokens { items: tokens })
+}
+
+/// The tokens of the bytes, in order, or the fault of the first token that is faulty by itself.
+///
+/// Errors: `BadByte`, `OpenString` or `BadNumber`, exactly where the first faulty token has that fault, and `NoMemory`.
+/// Cost: one pass, O(bytes) time and 12 bytes a token.
+pub fn lex(alloc: Global, bytes: &[u8]) -> Result<Tokens, GmlFault>
+    requires { length bytes.now < 2 ^ 32 }
+    ensures tokens { IfOk result (AreTokens bytes.now) }
+    ensures fault { IfErr result (λ e. e ≢ GmlFault.NoMemory → IsFaultyToken bytes.now e) }
+
+    // There is no other answer, unless memory runs out.
+    ensures only_tokens { (ts : List Token) → AreTokens bytes.now ts → MatchResult result (λ r. r ≡ ts) (λ e. e ≡ GmlFault.NoMemory) }
+    ensures only_fault { (f : GmlFault) → IsFaultyToken bytes.now f → MatchResult result (λ _. ⊥) (λ e. (e ≡ f) ⊎ (e ≡ GmlFault.NoMemory)) }
+{
+    cut(alloc, bytes)
 }

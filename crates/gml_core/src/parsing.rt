@@ -1,13 +1,13 @@
 //! Reads the tree of a text, token by token.
 
 ghost use Rattle.std.specs.Prelude.{◌≡◌, ◌≢◌, ◌<◌, ◌≤◌, ◌+◌, ◌-◌, ◌^◌, [], None, Some, Err, OnOk, IfOk, IfErr, MatchResult, ◌⊎◌, length, drop, take};
-ghost use Rattle.gml_core.specs.Reading.{part, step, end_fault, IsBounded, IsText, IsFirstFault};
+ghost use Rattle.gml_core.specs.Reading.{part, step, end_fault, IsText, IsFirstFault};
 ghost use Rattle.gml_core.specs.Building.{state_of, Takes, IsAtom, IsFinished};
 ghost use Rattle.gml_core.specs.Lexing.{IsWithin};
 ghost use Rattle.gml_core.specs.Views.{view};
 ghost use Rattle.gml_core.specs.Trees.{Entries};
 ghost use Rattle.gml_core.specs.Printing.{printed, at_zero};
-ghost use Rattle.gml_core.specs.Sound.{AreWell};
+ghost use Rattle.gml_core.specs.Sound.{IsSound};
 ghost use Rattle.gml_core.specs.declared.fault.GmlFault.{GmlFault};
 
 use crate::fault::GmlFault;
@@ -16,7 +16,7 @@ use crate::number::integer;
 use crate::text::text_of;
 use crate::token::{Token, TokenKind};
 use crate::tree::{
-    Pair, Tree, Value, int_value, list_value, make_pair, make_tree, real_value, str_value,
+    Pair, Tree, Value, append, int_value, list_value, make_pair, make_tree, real_value, str_value,
 };
 use sqlite_items::Items;
 use st_ids::Text;
@@ -137,7 +137,7 @@ impl Builder {
             return Err(GmlFault::TooDeep { at: token.from });
         }
         let Waiting { key, at } = waiting;
-        let inner = Items::from_vec(Vec::with_capacity(alloc, 1)?);
+        let inner = Items::new(alloc);
         let pairs = mem::replace(&mut self.pairs, inner);
         self.stack.push(Frame {
             pairs,
@@ -151,6 +151,7 @@ impl Builder {
     /// Ends a pair with a value that is no list.
     fn put(
         &mut self,
+        alloc: Global,
         bytes: &[u8],
         waiting: Waiting,
         token: Token,
@@ -162,7 +163,7 @@ impl Builder {
         ensures err { IfErr result (λ e. e ≡ GmlFault.NoMemory) }
     {
         let Waiting { key, at } = waiting;
-        self.pairs.push(make_pair(key, at, value))?;
+        append(alloc, &mut self.pairs, make_pair(key, at, value))?;
         Ok(())
     }
 
@@ -185,15 +186,15 @@ impl Builder {
             TokenKind::OpenList => self.begin(alloc, bytes, waiting, token),
             TokenKind::Int => match integer(piece(bytes, token.from, token.to)) {
                 None => Err(GmlFault::BigNumber { at: token.from }),
-                Some(n) => self.put(bytes, waiting, token, int_value(n)),
+                Some(n) => self.put(alloc, bytes, waiting, token, int_value(n)),
             },
             TokenKind::Real => {
                 let text = text_of(alloc, piece(bytes, token.from, token.to))?;
-                self.put(bytes, waiting, token, real_value(text))
+                self.put(alloc, bytes, waiting, token, real_value(text))
             }
             TokenKind::Str => {
                 let text = text_of(alloc, piece(bytes, token.from + 1, token.to - 1))?;
-                self.put(bytes, waiting, token, str_value(text))
+                self.put(alloc, bytes, waiting, token, str_value(text))
             }
         }
     }
@@ -251,15 +252,14 @@ pub fn parse(alloc: Global, bytes: &[u8]) -> Result<Tree, GmlFault>
     ensures text { IfOk result (λ t. IsText bytes.now (view t)) }
     ensures fault { IfErr result (λ e. e ≢ GmlFault.NoMemory → IsFirstFault bytes.now e) }
 
-    // Its keys, reals and strings are well formed.
-    ensures well { IfOk result (λ t. AreWell (view t)) }
+    ensures sound { IfOk result (λ t. IsSound (view t)) }
 
     // There is no other answer, unless memory runs out.
     ensures only_text { (t : Entries) → IsText bytes.now t → MatchResult result (λ u. view u ≡ t) (λ e. e ≡ GmlFault.NoMemory) }
     ensures only_fault { (f : GmlFault) → IsFirstFault bytes.now f → MatchResult result (λ _. ⊥) (λ e. (e ≡ f) ⊎ (e ≡ GmlFault.NoMemory)) }
 
     // What is printed is read again, apart from places.
-    ensures again { (t : Entries) → IsBounded t → AreWell t → bytes.now ≡ printed t
+    ensures again { (t : Entries) → IsSound t → bytes.now ≡ printed t
         → MatchResult result (λ u. at_zero (view u) ≡ at_zero t) (λ e. e ≡ GmlFault.NoMemory) }
 {
     read(alloc, bytes)

@@ -4,6 +4,7 @@ ghost use Rattle.std.specs.Prelude.{◌≡◌, ◌∷◌, [], ◌++◌, OnOk, If
 ghost use Rattle.gml_core.specs.Views.{datum, entry_view, view, entries};
 ghost use Rattle.std.specs.Fmt.{signed_decimal};
 ghost use Rattle.gml_core.specs.Printing.{datum_text, entry_text, printed};
+ghost use Rattle.gml_core.specs.Sound.{IsSound};
 
 use crate::tree::{Pair, Tree, Value};
 use st_ids::{NoMemory, Text};
@@ -62,8 +63,12 @@ fn print_pairs(alloc: Global, out: &mut Text, pairs: &[Pair]) -> Result<(), NoMe
     Ok(())
 }
 
-/// The printed form of a tree.
+/// The printed form of a sound tree: no indentation, and a line feed behind each pair and each opening bracket.
+///
+/// Errors: `NoMemory`.
+/// Cost: one pass, O(length of the text), with a depth of calls at most that of the lists.
 pub fn print(alloc: Global, tree: &Tree) -> Result<Text, NoMemory>
+    requires { IsSound (view tree.now) }
     ensures { IfOk result (λ t. t ≡ printed (view tree.now)) }
 {
     let mut out = Text::new(alloc);

@@ -1,11 +1,13 @@
 //! Trees: lists of pairs of a key and a value.
 
-ghost use Rattle.std.specs.Prelude.{◌≡◌, ◌<◌, ◌^◌, [], ◌∷◌, ◌++◌, IfOk, OnOk, OnErr, length, slice_get, Some};
-ghost use Rattle.gml_core.specs.Trees.{Entries, entry, atom, none, push, listed, list as list_datum, int as int_atom, real as real_atom, str as str_atom};
+ghost use Rattle.std.specs.Prelude.{◌≡◌, ◌≢◌, ◌<◌, ◌≤◌, ◌-◌, ◌^◌, [], ◌∷◌, ◌++◌, IfOk, OnOk, OnErr, length, slice_get, Some};
+ghost use Rattle.gml_core.specs.Trees.{Entries, entry, atom, none, push, listed, depth, list as list_datum, int as int_atom, real as real_atom, str as str_atom};
+ghost use Rattle.std.specs.List.{All};
 ghost use Rattle.gml_core.specs.Views.{datum, entry_view, view, entries};
-ghost use Rattle.gml_core.specs.Sound.{IsSound};
+ghost use Rattle.gml_core.specs.Sound.{IsSpelled, IsSound, IsSoundDatum};
 
 use crate::text::text_of;
+use crate::token::TokenKind;
 use sqlite_items::Items;
 use st_ids::{NoMemory, Text};
 use std::alloc::{AllocError, Global};
@@ -73,12 +75,26 @@ pub fn str_value(text: Text) -> Value
     Value::Str(text)
 }
 
+/// Appends a pair. An empty list gets room for one, since most lists inside others are short.
+pub fn append(alloc: Global, pairs: &mut Items<Pair>, pair: Pair) -> Result<(), AllocError>
+    ensures ok { OnOk result (pairs.new ≡ pairs.old ++ pair ∷ []) }
+    ensures err { OnErr result (pairs.new ≡ pairs.old) }
+{
+    if pairs.is_empty() {
+        let mut first = Vec::with_capacity(alloc, 1)?;
+        first.push(pair)?;
+        *pairs = Items::from_vec(first);
+        return Ok(());
+    }
+    pairs.push(pair)
+}
+
 #[tactic(auto, using(crate::proofs::Pushes::entries_push))]
-fn push_pair(pairs: &mut Items<Pair>, pair: Pair) -> Result<(), AllocError>
+fn push_pair(alloc: Global, pairs: &mut Items<Pair>, pair: Pair) -> Result<(), AllocError>
     ensures ok { OnOk result (entries pairs.new ≡ push (entries pairs.old) (entry_view pair)) }
     ensures err { OnErr result (pairs.new ≡ pairs.old) }
 {
-    pairs.push(pair)
+    append(alloc, pairs, pair)
 }
 
 #[tactic(auto, using(crate::proofs::Pushes::length_listed))]
@@ -101,7 +117,8 @@ fn nth(pairs: &[Pair], i: u32) -> &Pair
 impl Tree {
     /// The empty list.
     pub fn new(alloc: Global) -> Tree
-        ensures { view result ≡ none }
+        ensures empty { view result ≡ none }
+        ensures sound { IsSound (view result) }
     {
         Tree {
             pairs: Items::new(alloc),
@@ -135,38 +152,71 @@ impl Tree {
         nth(self.pairs(), i)
     }
 
-    fn put(&mut self, key: &[u8], value: Value) -> Result<(), NoMemory>
+    fn place(&mut self, key: &[u8], value: Value) -> Result<(), NoMemory>
         ensures ok { OnOk result (view self.new ≡ push (view self.old) (entry key.now 0 (datum value))) }
         ensures err { OnErr result (view self.new ≡ view self.old) }
     {
         let key = text_of(self.alloc, key)?;
-        match push_pair(&mut self.pairs, make_pair(key, 0, value)) {
+        match push_pair(self.alloc, &mut self.pairs, make_pair(key, 0, value)) {
             Ok(()) => Ok(()),
             Err(_) => Err(NoMemory),
         }
     }
 
-    /// Appends a pair with an integer.
+    fn put(&mut self, key: &[u8], value: Value) -> Result<(), NoMemory>
+        requires sound { IsSound (view self.old) }
+        requires room { length (listed (view self.old)) < 2 ^ 31 - 1 }
+        requires key { IsSpelled TokenKind.Key key.now }
+        requires value { IsSoundDatum (datum value) }
+        ensures ok { OnOk result (view self.new ≡ push (view self.old) (entry key.now 0 (datum value))) }
+        ensures err { OnErr result (view self.new ≡ view self.old) }
+        ensures sound { IsSound (view self.new) }
+    {
+        self.place(key, value)
+    }
+
+    /// Appends a pair with an integer. Its place is 0.
+    ///
+    /// Errors: `NoMemory`; the tree is as before.
     pub fn push_int(&mut self, key: &[u8], n: i64) -> Result<(), NoMemory>
+        requires sound { IsSound (view self.old) }
+        requires room { length (listed (view self.old)) < 2 ^ 31 - 1 }
+        requires key { IsSpelled TokenKind.Key key.now }
         ensures ok { OnOk result (view self.new ≡ push (view self.old) (entry key.now 0 (atom (int_atom n)))) }
         ensures err { OnErr result (view self.new ≡ view self.old) }
+        ensures sound { IsSound (view self.new) }
     {
         self.put(key, int_value(n))
     }
 
-    /// Appends a pair with a string.
+    /// Appends a pair with a string. Its place is 0.
+    ///
+    /// Errors: `NoMemory`; the tree is as before.
     pub fn push_str(&mut self, key: &[u8], text: &[u8]) -> Result<(), NoMemory>
+        requires sound { IsSound (view self.old) }
+        requires room { length (listed (view self.old)) < 2 ^ 31 - 1 }
+        requires key { IsSpelled TokenKind.Key key.now }
+        requires no_quote { All (λ b. b ≢ 34) text.now }
         ensures ok { OnOk result (view self.new ≡ push (view self.old) (entry key.now 0 (atom (str_atom text.now)))) }
         ensures err { OnErr result (view self.new ≡ view self.old) }
+        ensures sound { IsSound (view self.new) }
     {
         let text = text_of(self.alloc, text)?;
         self.put(key, str_value(text))
     }
 
-    /// Appends a pair with a list.
+    /// Appends a pair with a list. Its place is 0.
+    ///
+    /// Errors: `NoMemory`; the tree is as before, and the list is dropped.
     pub fn push_list(&mut self, key: &[u8], list: Tree) -> Result<(), NoMemory>
+        requires sound { IsSound (view self.old) }
+        requires room { length (listed (view self.old)) < 2 ^ 31 - 1 }
+        requires key { IsSpelled TokenKind.Key key.now }
+        requires list { IsSound (view list) }
+        requires nests { depth (view list) ≤ 31 }
         ensures ok { OnOk result (view self.new ≡ push (view self.old) (entry key.now 0 (list_datum (view list)))) }
         ensures err { OnErr result (view self.new ≡ view self.old) }
+        ensures sound { IsSound (view self.new) }
     {
         self.put(key, list_value(list))
     }

@@ -10,5 +10,5 @@ returns-clause-only_fault c = exact.only_fault c.args.bytes.now c.read.result c.
 pub returns-clause-again : goal.returns-clause-again
 returns-clause-again c = exact.again c.args.bytes.now c.read.result c.read.ensures.ok c.read.ensures.err
 
-pub returns-clause-well : goal.returns-clause-well
-returns-clause-well c = exact.well c.args.bytes.now c.read.result c.read.ensures.ok
+pub returns-clause-sound : goal.returns-clause-sound
+returns-clause-sound c = exact.sound c.args.bytes.now c.read.result c.requires c.read.ensures.ok

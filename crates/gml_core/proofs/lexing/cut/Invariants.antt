@@ -1,6 +1,6 @@
 use Rattle.std.proofs.Common.{◌-◌, ◌≤◌, length}
 use Rattle.gml_core.specs.Lexing.{first_place, Leads}
-use Rattle.gml_core.proofs.lexing.lex.Given as goal
+use Rattle.gml_core.proofs.lexing.cut.Given as goal
 
 abbrev pub invariant-loop-tokens : goal.invariant-loop-tokens
 invariant-loop-tokens l = (l.at ≤ length l.bytes) × Leads l.bytes (first_place l.bytes) l.tokens.items l.at
