@@ -82,8 +82,8 @@ impl Builder {
             Some(frame) => {
                 let Frame { pairs, key, at, .. } = frame;
                 let inner = mem::replace(&mut self.pairs, pairs);
-                self.pairs
-                    .push(make_pair(key, at, list_value(make_tree(inner, alloc))))?;
+                let pair = make_pair(key, at, list_value(make_tree(inner, alloc)));
+                append(alloc, &mut self.pairs, pair)?;
                 Ok(())
             }
         }
