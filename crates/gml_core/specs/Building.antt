@@ -1,4 +1,9 @@
 -- What a reader of tokens keeps: the words that it took, and the state after them.
+--   words_of b             the words that a builder took
+--   state_of b             the state after them
+--   Takes bytes old t new  the token is taken
+--   IsAtom bytes t v       the value is what the token says
+--   IsFinished b t         the words are those of the tree, and nothing is left open
 use Rattle.std.specs.Prelude.{◌≡◌, ℕ, List, [], ◌∷◌, ◌++◌, map, reverse, true, Option, Some, None, Ok}
 use Rattle.std.specs.List.{flat_map}
 use Rattle.gml_core.specs.declared.token.Token.{Token}

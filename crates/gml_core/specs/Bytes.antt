@@ -1,4 +1,9 @@
 -- Which bytes are which, and how a number is spelled.
+--   is_space, ends_line, is_word, is_sign, begins_number, is_numeric    kinds of bytes
+--   unsigned run       the run behind its sign, if it has one
+--   digits bs          how many digits are at the front
+--   is_exponent bs     e or E, an optional sign and digits
+--   number_kind run    whether the run of a number is an integer or a real, or nothing
 use Rattle.std.specs.Prelude.{ℕ, ◌+◌, Bool, false, ◌&&◌, ◌||◌, ◌==◌, if◌then◌else◌, nat_lt, nat_le, List, [], ◌∷◌, length, drop, Option, Some, None}
 use Rattle.std.specs.List.{prefix_len}
 use Rattle.std.specs.Char.{is_ascii_digit, is_ascii_alphanumeric}

@@ -1,4 +1,13 @@
--- How bytes are cut into tokens.
+-- How bytes are cut into tokens. A place is an offset from the front of the bytes; a token has the places `from` of its
+-- first byte and `to` of the byte behind it.
+--   gap bs                   how many bytes of white space and comments are at the front
+--   token_at at bs           the token at the front of bytes that lie at a place, or its fault: one row a first byte
+--   next bytes at            what comes from a place on: a token, its fault, or nothing at the end
+--   first_place bytes        where reading begins: behind a byte order mark
+--   Leads bytes at ts to     these tokens follow one another from one place up to another
+--   AreTokens bytes ts       the bytes are these tokens
+--   IsFaultyToken bytes f    the first token that is faulty by itself has this fault
+--   IsTokenFault f           a token can have this fault by itself
 use Rattle.std.specs.Prelude.{◌≡◌, ℕ, ◌+◌, ◌<◌, ◌≤◌, Bool, true, false, not, ◌==◌, if◌then◌else◌, nat_lt, List, [], ◌∷◌, length, take, drop, Option, Some, None, Result, Ok, Err, position}
 use Rattle.std.specs.List.{prefix_len}
 use Rattle.std.specs.Char.{is_ascii_alphabetic}
@@ -6,7 +15,7 @@ use Rattle.gml_core.specs.declared.token.TokenKind.{TokenKind}
 use Rattle.gml_core.specs.declared.token.TokenKind.TheVariants.{OpenList, CloseList, Key, Str}
 use Rattle.gml_core.specs.declared.token.Token.{Token}
 use Rattle.gml_core.specs.declared.fault.GmlFault.{GmlFault}
-use Rattle.gml_core.specs.declared.fault.GmlFault.TheVariants.{BadByte, OpenString, BadNumber}
+use Rattle.gml_core.specs.declared.fault.GmlFault.TheVariants.{BadByte, OpenString, BadNumber, BigNumber, NoValue, Unclosed, Stray, TooDeep, NoMemory}
 use Rattle.gml_core.specs.Bytes.{is_space, ends_line, is_word, begins_number, is_numeric, number_kind}
 
 -- How many bytes of white space and comments are at the front. The flag says that a comment is open.
@@ -76,3 +85,15 @@ AreTokens bytes ts = (end : ℕ) × Leads bytes (first_place bytes) ts end × (n
 -- the first token that is faulty by itself has this fault
 abbrev pub IsFaultyToken : List ℕ → GmlFault → Type 0
 IsFaultyToken bytes f = (ts : List Token) × (at : ℕ) × Leads bytes (first_place bytes) ts at × (next bytes at ≡ Err f)
+
+-- a token can have this fault by itself
+abbrev pub IsTokenFault : GmlFault → Type 0
+IsTokenFault (BadByte at) = Unit {0}
+IsTokenFault (OpenString at) = Unit {0}
+IsTokenFault (BadNumber at) = Unit {0}
+IsTokenFault (BigNumber at) = ⊥
+IsTokenFault (NoValue at) = ⊥
+IsTokenFault (Unclosed at) = ⊥
+IsTokenFault (Stray at) = ⊥
+IsTokenFault (TooDeep at) = ⊥
+IsTokenFault NoMemory = ⊥

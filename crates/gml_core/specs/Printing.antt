@@ -1,4 +1,6 @@
 -- The printed form of a tree.
+--   printed tree    its bytes: no indentation, a line feed behind each pair and each opening bracket
+--   at_zero tree    the same tree with each place 0
 use Rattle.std.specs.Prelude.{List, [], ◌∷◌, ◌++◌, ℕ}
 use Rattle.std.specs.Fmt.{signed_decimal}
 use Rattle.gml_core.specs.Trees.{Atom, int, real, str, Datum, atom, list, Entry, entry, Entries, none, more}

@@ -1,4 +1,14 @@
 -- What bytes are a text of a tree, and what the first fault of other bytes is.
+--   number ds, integer run    what digits, and the run of an integer, mean
+--   part bytes from to        the bytes from one place up to another
+--   word bytes t              what a token says
+--   IsBounded tree            lists nest at most 32 deep, and integers are within signed 64 bits
+--   IsText bytes tree         the bytes are a text of the tree
+--   State                     where reading stands: the key that waits for its value, and the open lists
+--   step bytes s t            the state after one token more, or the token's fault
+--   end_fault s               the fault where the text ends
+--   Moves bytes s ts e        the tokens lead from one state to another
+--   IsFirstFault bytes f      the first fault of the bytes: that of the first token, or of the end, that is not taken
 use Rattle.std.specs.Prelude.{◌≡◌, ℕ, ◌+◌, ◌-◌, ◌*◌, ◌≤◌, ℤ, pos, IsTrue, ◌==◌, if◌then◌else◌, nat_lt, List, [], ◌∷◌, length, take, drop, map, fold, slice_index, Option, Some, None, Result, Ok, Err}
 use Rattle.std.proofs.Common.{neg_ℤ}
 use Rattle.gml_core.specs.declared.token.TokenKind.{TokenKind}

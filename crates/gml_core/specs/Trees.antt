@@ -1,4 +1,11 @@
 -- What a tree is, and how it is spelled.
+--   Entries, Entry, Datum, Atom    a list of pairs, a pair, a value, a value that is no list
+--   Word                           a token, by what it says
+--   spelling tree                  the words of the tree's text, in order
+--   depth tree                     how deep its lists nest; the tree's own list has depth 0
+--   all_fit tree                   each of its integers is within signed 64 bits
+--   listed tree                    its pairs, as a list
+--   push tree entry                the tree with one pair more at its end
 use Rattle.std.specs.Prelude.{ℕ, suc, max, ℤ, pos, negsuc, Bool, true, ◌&&◌, int_le, ◌-◌, ◌^◌, List, [], ◌∷◌, ◌++◌}
 
 -- a value that is no list

@@ -1,4 +1,8 @@
--- The tree that a `Tree` stands for.
+-- The tree that a value of the program stands for.
+--   view tree          of a `Tree`
+--   entry_view pair    of a `Pair`
+--   datum value        of a `Value`
+--   entries pairs      of a list of pairs
 use Rattle.std.specs.Prelude.{List, [], ◌∷◌, map}
 use Rattle.gml_core.specs.Trees.{int, real, str, Datum, atom, list, Entry, entry, Entries, none, more}
 use Rattle.gml_core.specs.declared.tree.Value.{Value, fold-Value}

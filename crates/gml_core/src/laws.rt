@@ -1,4 +1,4 @@
-//! What the definitions say together. Each function does nothing, and its contract is a law.
+//! What the definitions of texts say together. Each function does nothing, and its contract is a law.
 
 ghost use Rattle.std.specs.Prelude.{◌≡◌, ℕ, ◌++◌, ◌∷◌, [], List, map, Some, None, Ok, ◌⊎◌};
 ghost use Rattle.gml_core.specs.declared.token.Token.{Token};
@@ -7,7 +7,7 @@ ghost use Rattle.gml_core.specs.Trees.{Entries, Word, spelling};
 ghost use Rattle.gml_core.specs.Lexing.{next, AreTokens, IsFaultyToken};
 ghost use Rattle.gml_core.specs.Reading.{word, State, begin, Moves, IsBounded, IsText, IsFirstFault};
 
-/// Bytes have one list of tokens or a faulty token, and not both.
+/// All bytes have exactly one of a list of tokens and a faulty token.
 pub fn one_cut()
     ensures some { (bytes : List ℕ) → ((ts : List Token) × AreTokens bytes ts) ⊎ ((f : GmlFault) × IsFaultyToken bytes f) }
     ensures tokens { (bytes : List ℕ) (ts us : List Token) → AreTokens bytes ts → AreTokens bytes us → ts ≡ us }
@@ -15,7 +15,7 @@ pub fn one_cut()
     ensures apart { (bytes : List ℕ) (ts : List Token) (f : GmlFault) → AreTokens bytes ts → IsFaultyToken bytes f → ⊥ }
 {}
 
-/// Bytes are a text of one tree, or have one first fault, and not both.
+/// All bytes have exactly one of a tree and a first fault.
 pub fn one_answer()
     ensures some { (bytes : List ℕ) → ((tree : Entries) × IsText bytes tree) ⊎ ((f : GmlFault) × IsFirstFault bytes f) }
     ensures tree { (bytes : List ℕ) (t u : Entries) → IsText bytes t → IsText bytes u → t ≡ u }
@@ -23,7 +23,9 @@ pub fn one_answer()
     ensures apart { (bytes : List ℕ) (t : Entries) (f : GmlFault) → IsText bytes t → IsFirstFault bytes f → ⊥ }
 {}
 
-/// No text goes on with the tokens up to the first fault, and none ends where the end is the first fault.
+/// The first fault is not early: no text begins with the tokens up to the faulty one, and none ends where the end is it.
+///
+/// This is said of tokens. Bytes may go on otherwise: `x 1e` is faulty, and `x 1e5` is a text.
 pub fn none_goes_on()
     ensures token { (bytes : List ℕ) (f : GmlFault) (first : IsFirstFault bytes f) (t : Token) (others : List Word) (tree : Entries)
         → next bytes first.at ≡ Ok (Some t) → IsBounded tree → spelling tree ≡ map (word bytes) (first.tokens ++ t ∷ []) ++ others → ⊥ }

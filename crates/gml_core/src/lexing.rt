@@ -1,4 +1,6 @@
-//! Cuts bytes into tokens.
+//! Cuts bytes into tokens, each as long as it can be.
+//!
+//! Each function looks at a slice from its front on, and answers a length. What a token is stands in `specs/Lexing.antt`.
 
 ghost use Rattle.std.specs.Prelude.{◌≡◌, ◌≢◌, ◌<◌, ◌≤◌, ◌+◌, ◌^◌, length, drop, true, IfOk, IfErr, IfSome, MatchResult, ◌⊎◌, List, position, ◌==◌};
 ghost use Rattle.std.specs.List.{prefix_len};
@@ -6,7 +8,7 @@ ghost use Rattle.std.specs.Char.{is_ascii_digit as digit};
 ghost use Rattle.gml_core.specs.Bytes as spec;
 ghost use Rattle.gml_core.specs.declared.token.Token.{Token};
 ghost use Rattle.gml_core.specs.declared.fault.GmlFault.{GmlFault};
-ghost use Rattle.gml_core.specs.Lexing.{gap, gap_from, token as spec_token, string_at, token_at, next, first_place, IsWithin, AreTokens, IsFaultyToken};
+ghost use Rattle.gml_core.specs.Lexing.{gap, gap_from, token as spec_token, string_at, token_at, next, first_place, IsWithin, AreTokens, IsFaultyToken, IsTokenFault};
 
 use crate::fault::GmlFault;
 use crate::token::{Token, TokenKind};
@@ -201,6 +203,7 @@ fn quote_at(text: &[u8]) -> Option<usize>
 fn string_at(at: usize, rest: &[u8]) -> Result<Token, GmlFault>
     requires { at + length rest.now + 1 < 2 ^ 32 }
     ensures value { result ≡ string_at at (position (λ x. x == 34) rest.now) }
+    ensures kind { IfErr result IsTokenFault }
     ensures within { IfOk result (λ t. (t.from ≡ at) × (at < t.to) × (t.to ≤ at + length rest.now + 1)) }
     ensures quotes { IfOk result (λ t. t.from + 2 ≤ t.to) }
 {
@@ -215,6 +218,7 @@ fn string_at(at: usize, rest: &[u8]) -> Result<Token, GmlFault>
 fn token_at(at: usize, text: &[u8]) -> Result<Token, GmlFault>
     requires { at + length text.now < 2 ^ 32 }
     ensures value { result ≡ token_at at text.now }
+    ensures kind { IfErr result IsTokenFault }
     ensures within { IfOk result (λ t. (t.from ≡ at) × (at < t.to) × (t.to ≤ at + length text.now)) }
     ensures quotes { IfOk result (λ t. t.kind ≡ TokenKind.Str → t.from + 2 ≤ t.to) }
 {
@@ -243,6 +247,7 @@ pub fn next(bytes: &[u8], at: usize) -> Result<Option<Token>, GmlFault>
     requires fits { length bytes.now < 2 ^ 32 }
     requires inside { at ≤ length bytes.now }
     ensures value { result ≡ next bytes.now at }
+    ensures kind { IfErr result IsTokenFault }
     ensures within { IfOk result (λ o. IfSome o (λ t. (at ≤ t.from) × IsWithin bytes.now t)) }
 {
     let from = at + gap(&bytes[at..]);
@@ -264,7 +269,7 @@ pub fn first_place(bytes: &[u8]) -> usize
     }
 }
 
-/// The tokens of a text, seen as their list.
+/// The tokens of bytes. A contract sees their list.
 #[derive(Debug, Drop)]
 pub struct Tokens {
     items: Vec<Token>,
@@ -280,6 +285,7 @@ impl Model for Tokens {
 }
 
 impl Tokens {
+    /// All tokens, in order.
     pub fn items(&self) -> &[Token]
         ensures { result.now ≡ self.now }
     {
@@ -291,6 +297,7 @@ fn cut(alloc: Global, bytes: &[u8]) -> Result<Tokens, GmlFault>
     requires { length bytes.now < 2 ^ 32 }
     ensures tokens { IfOk result (AreTokens bytes.now) }
     ensures fault { IfErr result (λ e. e ≢ GmlFault.NoMemory → IsFaultyToken bytes.now e) }
+    ensures kind { IfErr result (λ e. e ≢ GmlFault.NoMemory → IsTokenFault e) }
 {
     let mut tokens = Vec::new(alloc);
     let mut at = first_place(bytes);
@@ -309,6 +316,7 @@ pub fn lex(alloc: Global, bytes: &[u8]) -> Result<Tokens, GmlFault>
     requires { length bytes.now < 2 ^ 32 }
     ensures tokens { IfOk result (AreTokens bytes.now) }
     ensures fault { IfErr result (λ e. e ≢ GmlFault.NoMemory → IsFaultyToken bytes.now e) }
+    ensures kind { IfErr result (λ e. e ≢ GmlFault.NoMemory → IsTokenFault e) }
 
     // There is no other answer, unless memory runs out.
     ensures only_tokens { (ts : List Token) → AreTokens bytes.now ts → MatchResult result (λ r. r ≡ ts) (λ e. e ≡ GmlFault.NoMemory) }

@@ -12,7 +12,7 @@ use sqlite_items::Items;
 use st_ids::{NoMemory, Text};
 use std::alloc::{AllocError, Global};
 
-/// What a key stands for.
+/// What a key stands for. A real and a string have their bytes as read, a string without its quotes.
 #[cycle(tree)]
 #[derive(Drop)]
 pub enum Value {
@@ -22,7 +22,7 @@ pub enum Value {
     List(Tree),
 }
 
-/// A key, where it stands, and its value.
+/// A key, its offset in the file, and its value.
 #[cycle(tree)]
 #[derive(Drop)]
 pub struct Pair {
@@ -31,7 +31,7 @@ pub struct Pair {
     pub value: Value,
 }
 
-/// A list of pairs.
+/// A list of pairs, in their order.
 #[cycle(tree)]
 #[derive(Drop)]
 pub struct Tree {
