@@ -1,11 +1,11 @@
 -- The tree of a text is sound: its lists are short, since each pair takes two tokens and each token a byte.
-use Rattle.std.proofs.Common.{◌≡◌, ◌<◌, ◌≤◌, ◌+◌, ◌-◌, ◌*◌, ◌^◌, ℕ, suc, List, [], ◌∷◌, ◌++◌, length, map, sym, ap, ◌∙◌, arith}
+use Rattle.std.proofs.Common.{◌≡◌, ◌<◌, ◌≤◌, ◌-◌, ◌*◌, ◌^◌, ℕ, List, [], ◌∷◌, length, sym, ap, ◌∙◌, arith}
 use Rattle.std.proofs.lemmas.List.{length-append, length-map}
 use Rattle.gml_core.specs.declared.token.Token.{Token}
 use Rattle.gml_core.specs.Lexing.{first_place, Leads}
-use Rattle.gml_core.specs.Trees.{Datum, atom, list, Entry, entry, Entries, none, more, Word, closes, listed, spelling, entry_spelling, datum_spelling}
+use Rattle.gml_core.specs.Trees.{Datum, atom, list, Entry, entry, Entries, none, more, closes, listed, spelling, entry_spelling, datum_spelling}
 use Rattle.gml_core.specs.Reading.{word, IsText}
-use Rattle.gml_core.specs.Sound.{short_length, IsShortDatum, IsShortEntry, HaveShortLists, AreShort, IsSound}
+use Rattle.gml_core.specs.Sound.{IsShortDatum, IsShortEntry, HaveShortLists, IsSound}
 use Rattle.gml_core.proofs.Total.{next_moves}
 use Rattle.gml_core.proofs.Well.{text_well}
 

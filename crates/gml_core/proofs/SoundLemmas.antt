@@ -1,6 +1,6 @@
 -- Soundness of what is inside, and of what is pushed.
-use Rattle.std.proofs.Common.{◌≡◌, ◌≢◌, ◌<◌, ◌≤◌, ◌+◌, ◌-◌, ◌^◌, ℕ, zero, suc, max, Bool, true, false, ◌&&◌, ℤ, List, [], ◌∷◌, ◌++◌, length, slice_get, Option, None, Some, Result, Ok, Err, refl, sym, ap, subst, ◌∙◌, arith}
-use Rattle.std.specs.Prelude.{OnOk, OnErr, IsTrue, position, nat_lt, ◌==◌}
+use Rattle.std.proofs.Common.{◌≡◌, ◌≢◌, ◌<◌, ◌≤◌, ◌+◌, ◌-◌, ◌^◌, ℕ, zero, suc, true, ℤ, List, [], ◌∷◌, ◌++◌, length, slice_get, Some, Result, Ok, Err, refl, sym, ap, subst, ◌∙◌, arith}
+use Rattle.std.specs.Prelude.{OnOk, OnErr, position, ◌==◌}
 use Rattle.std.specs.List.{All, position_or_len}
 use Rattle.std.proofs.lemmas.Option.{none-some, same_Some}
 use Rattle.std.proofs.lemmas.Bool.{and_parts, and_from, ne_eqb, lt-ltb}
@@ -9,8 +9,8 @@ use Rattle.gml_core.specs.declared.token.Token.{Token}
 use Rattle.gml_core.specs.declared.fault.GmlFault.{GmlFault}
 use Rattle.gml_core.specs.declared.token.TokenKind.TheVariants.{Key, Str}
 use Rattle.gml_core.specs.Lexing.{token, string_at, token_at}
-use Rattle.gml_core.specs.Trees.{Datum, list, Entry, entry, Entries, none, more, listed, push, depth, datum_depth, entry_depth, max_depth, all_fit, datum_fits, entry_fits, fits, int, str, atom}
-use Rattle.gml_core.specs.Sound.{IsSpelled, AreWell, IsWellEntry, HaveShortLists, IsShortEntry, short_length, IsSound, IsSoundDatum}
+use Rattle.gml_core.specs.Trees.{Datum, list, Entry, entry, Entries, none, more, listed, push, depth, entry_depth, max_depth, all_fit, entry_fits, fits, int, str, atom}
+use Rattle.gml_core.specs.Sound.{IsSpelled, AreWell, IsWellEntry, HaveShortLists, IsShortEntry, IsSound, IsSoundDatum}
 
 -- what holds of the entries one by one holds of each of them
 depth_of : (es : Entries) (i : ℕ) (e : Entry) → slice_get (listed es) i ≡ Some e → entry_depth e ≤ depth es
