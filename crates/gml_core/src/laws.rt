@@ -33,7 +33,7 @@ pub fn none_goes_on()
         → next bytes first.at ≡ Ok None → IsBounded tree → spelling tree ≡ map (word bytes) first.tokens → ⊥ }
 {}
 
-/// Before the first fault some text goes on: these tokens begin the text of a bounded tree.
+/// The first fault is not late: the tokens before it, each of which is taken, begin the text of some tree.
 pub fn some_goes_on()
     ensures { (bytes : List ℕ) (ts : List Token) (s : State) → Moves bytes begin ts s
         → (others : List Word) × (tree : Entries) × IsBounded tree × (spelling tree ≡ map (word bytes) ts ++ others) }

@@ -52,6 +52,7 @@ struct Builder {
     waits: Option<Waiting>,
 }
 
+/// The bytes from one place up to another.
 fn piece(bytes: &[u8], from: u32, to: u32) -> &[u8]
     requires ordered { from ≤ to }
     requires inside { to ≤ length bytes.now }

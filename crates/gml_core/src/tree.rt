@@ -126,6 +126,7 @@ impl Tree {
         }
     }
 
+    /// All pairs, in order.
     pub(crate) fn pairs(&self) -> &[Pair]
         ensures { entries result.now ≡ view self.now }
     {
@@ -152,6 +153,7 @@ impl Tree {
         nth(self.pairs(), i)
     }
 
+    /// Appends a pair, whatever its key and value.
     fn place(&mut self, key: &[u8], value: Value) -> Result<(), NoMemory>
         ensures ok { OnOk result (view self.new ≡ push (view self.old) (entry key.now 0 (datum value))) }
         ensures err { OnErr result (view self.new ≡ view self.old) }
@@ -163,6 +165,7 @@ impl Tree {
         }
     }
 
+    /// Appends a pair that keeps a sound tree sound.
     fn put(&mut self, key: &[u8], value: Value) -> Result<(), NoMemory>
         requires sound { IsSound (view self.old) }
         requires room { length (listed (view self.old)) < 2 ^ 31 - 1 }
