@@ -1,0 +1,17 @@
+pub mod Pushes
+pub mod SoundLemmas
+pub mod Cuts
+pub mod Builds
+pub mod Walks
+pub mod SoFar
+pub mod Unique
+pub mod GoesOn
+pub mod Partial
+pub mod Total
+pub mod Again
+pub mod Decimals
+pub mod RoundTrip
+pub mod Exact
+pub mod Alone
+pub mod Well
+pub mod Sizes

@@ -1,0 +1,40 @@
+//! What the definitions of texts say together. Each function does nothing, and its contract is a law.
+
+ghost use Rattle.std.specs.Prelude.{◌≡◌, ℕ, ◌++◌, ◌∷◌, [], List, map, Some, None, Ok, ◌⊎◌};
+ghost use Rattle.gml_core.specs.declared.token.Token.{Token};
+ghost use Rattle.gml_core.specs.declared.fault.GmlFault.{GmlFault};
+ghost use Rattle.gml_core.specs.Trees.{Entries, Word, spelling};
+ghost use Rattle.gml_core.specs.Lexing.{next, AreTokens, IsFaultyToken};
+ghost use Rattle.gml_core.specs.Reading.{word, State, begin, Moves, IsBounded, IsText, IsFirstFault};
+
+/// All bytes have exactly one of a list of tokens and a faulty token.
+pub fn one_cut()
+    ensures some { (bytes : List ℕ) → ((ts : List Token) × AreTokens bytes ts) ⊎ ((f : GmlFault) × IsFaultyToken bytes f) }
+    ensures tokens { (bytes : List ℕ) (ts us : List Token) → AreTokens bytes ts → AreTokens bytes us → ts ≡ us }
+    ensures fault { (bytes : List ℕ) (f g : GmlFault) → IsFaultyToken bytes f → IsFaultyToken bytes g → f ≡ g }
+    ensures apart { (bytes : List ℕ) (ts : List Token) (f : GmlFault) → AreTokens bytes ts → IsFaultyToken bytes f → ⊥ }
+{}
+
+/// All bytes have exactly one of a tree and a first fault.
+pub fn one_answer()
+    ensures some { (bytes : List ℕ) → ((tree : Entries) × IsText bytes tree) ⊎ ((f : GmlFault) × IsFirstFault bytes f) }
+    ensures tree { (bytes : List ℕ) (t u : Entries) → IsText bytes t → IsText bytes u → t ≡ u }
+    ensures fault { (bytes : List ℕ) (f g : GmlFault) → IsFirstFault bytes f → IsFirstFault bytes g → f ≡ g }
+    ensures apart { (bytes : List ℕ) (t : Entries) (f : GmlFault) → IsText bytes t → IsFirstFault bytes f → ⊥ }
+{}
+
+/// The first fault is not early: no text begins with the tokens up to the faulty one, and none ends where the end is it.
+///
+/// This is said of tokens. Bytes may go on otherwise: `x 1e` is faulty, and `x 1e5` is a text.
+pub fn none_goes_on()
+    ensures token { (bytes : List ℕ) (f : GmlFault) (first : IsFirstFault bytes f) (t : Token) (others : List Word) (tree : Entries)
+        → next bytes first.at ≡ Ok (Some t) → IsBounded tree → spelling tree ≡ map (word bytes) (first.tokens ++ t ∷ []) ++ others → ⊥ }
+    ensures end { (bytes : List ℕ) (f : GmlFault) (first : IsFirstFault bytes f) (tree : Entries)
+        → next bytes first.at ≡ Ok None → IsBounded tree → spelling tree ≡ map (word bytes) first.tokens → ⊥ }
+{}
+
+/// The first fault is not late: the tokens before it, each of which is taken, begin the text of some tree.
+pub fn some_goes_on()
+    ensures { (bytes : List ℕ) (ts : List Token) (s : State) → Moves bytes begin ts s
+        → (others : List Word) × (tree : Entries) × IsBounded tree × (spelling tree ≡ map (word bytes) ts ++ others) }
+{}
