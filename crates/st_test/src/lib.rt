@@ -1,0 +1,2 @@
+//! Tests of a graph: its poles, with evidence where it has none.
+#![tactic(auto)]
