@@ -3,7 +3,8 @@
 --   NoneIn g v, NoneOut g v             no edge comes to v, no edge leaves v
 --   IsOnlySource g s, IsOnlySink g t    s is the one vertex without an edge in, t the one without an edge out
 --   ArePoles g s t                      all four tests on the graph hold, and s and t are its poles
-use Rattle.std.specs.Prelude.{ℕ, ◌≡◌, ◌≢◌, ◌<◌, ◌≤◌, length}
+--   graph_of n ends                     the graph of n vertices with these ends
+use Rattle.std.specs.Prelude.{ℕ, ◌≡◌, ◌≢◌, ◌<◌, ◌≤◌, List, length}
 use Rattle.st_ids.specs.Graph.{Graph, tail_of, head_of, arcs_of}
 use Rattle.st_ids.specs.Walks.{IsAcyclic}
 
@@ -33,3 +34,7 @@ pub record ArePoles (g : Graph) (s t : ℕ) : Type 0 where
   pub no_cycle : IsAcyclic (arcs_of g)
   pub source : IsOnlySource g s
   pub sink : IsOnlySink g t
+
+-- the graph of n vertices with these ends
+abbrev pub graph_of : ℕ → List (ℕ × ℕ) → Graph
+graph_of n ends = record { vertices = n; ends = ends }
