@@ -1,8 +1,18 @@
 -- What the parts of the search for a cycle compute.
+-- Letters: n number of vertices, order the vertices taken away, left a mark for each that is left, back the edge back from
+-- each, passed the vertices on the way back, place the place of each vertex on that way.
+--   is_left, AreLeft, AreLeftAt    whether a vertex is left; the marks of all; the same of the order's front
+--   ComesIn, AreBacks              an edge comes from a vertex that is left; the first such edge of each vertex
+--   parent, IsClosed               the vertex to which one goes back; it is left too
+--   IsTrail, IsTracing             the way back up to the repeat, and before it
+--   IsLeastPlace                   the place of the least vertex from a place on
+--   wrapped, looped                the steps on a loop beyond its end, and the edges back along it
+--   AllListed                      each vertex was taken away
 use Rattle.std.specs.Prelude.{ℕ, ◌≡◌, ◌≢◌, ◌⊎◌, ◌-◌, ◌^◌, ◌<◌, ◌≤◌, Bool, true, false, cond, nat_lt, List, length, slice_index, slice_index_or}
 use Rattle.st_ids.specs.Graph.{tail_of, head_of}
 use Rattle.st_test.specs.Steps.{iterate}
 
+-- whether the vertex is left
 abbrev pub is_left : List Bool → ℕ → Bool
 is_left left v = slice_index_or left v false
 
@@ -48,6 +58,7 @@ pub record IsTrail (ends : List (ℕ × ℕ)) (back : List ℕ) (start : ℕ) (p
   pub again : iterate (length passed) (parent ends back) start ≡ iterate first (parent ends back) start
   pub apart : (a b : ℕ) → a < b → b < length passed → slice_index passed a ≢ slice_index passed b
 
+-- the way back before a vertex comes a second time: v is the next, and the marks are places on the way
 pub record IsTracing (n : ℕ) (ends : List (ℕ × ℕ)) (left : List Bool) (back : List ℕ) (start : ℕ) (passed place : List ℕ) (v : ℕ) : Type 0 where
   pub size : length place ≡ n
   pub each : (k : ℕ) → k < length passed → slice_index passed k ≡ iterate k (parent ends back) start

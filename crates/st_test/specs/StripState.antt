@@ -1,4 +1,12 @@
 -- What holds while the vertices are taken away.
+-- Letters: n number of vertices, order the vertices taken away so far, es the edges gone so far, degree how many edges
+-- still come to each vertex, place the place in the order that is looked at, link one more than the next edge that goes.
+--   member, left_into        whether a number is in a list; whether an edge comes to a vertex and is not gone
+--   State                    the order and the degrees fit the edges that are gone
+--   IsTurn, Released         which edges are gone: those out of earlier places, and the later ones out of this place
+--   IsFront                  a list is the front of another
+--   IsReleasing, AreGoing    what holds between two vertices, and between two edges out of one vertex
+--   AreZeros, IsBefore       what the lists of vertices without an edge in, and of links, have
 use Rattle.std.specs.Prelude.{ℕ, ◌≡◌, ◌≢◌, ◌⊎◌, ◌<◌, ◌≤◌, ◌==◌, ◌&&◌, ◌||◌, Bool, true, false, List, [], ◌∷◌, length, slice_index}
 use Rattle.std.specs.Prelude.{not}
 use Rattle.st_ids.specs.Graph.{tail_of, head_of}

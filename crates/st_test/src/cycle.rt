@@ -1,4 +1,9 @@
 //! The cycle that is named.
+//!
+//! The vertices that are left when no more can be taken away are those at which walks of any length end. Each has an
+//! edge from another such vertex, so one can go back for ever, along the first such edge of each: first a way, then a
+//! loop. The marks of the vertices that were passed are their places on the way, so the vertex that comes a second time
+//! tells where the loop begins. Its edges are listed from its least vertex on, forwards.
 ghost use Rattle.std.specs.Prelude.{◌≡◌, ◌+◌, ◌-◌, ◌<◌, ◌≤◌, ◌^◌, ℕ, true, false, length, slice_index, IfOk, IfSome, MatchOption, MatchResult};
 ghost use Rattle.st_ids.specs.Graph.{AreWithin};
 ghost use Rattle.st_test.specs.Poles.{graph_of};
@@ -86,7 +91,7 @@ pub fn go_back(
     let mut place = vec![in alloc; u32::MAX; n as usize]?;
     let mut passed = Vec::new(alloc);
     let mut v = start;
-    'back: while place[v as usize] == u32::MAX {
+    while place[v as usize] == u32::MAX {
         place[v as usize] = passed.len() as u32;
         passed.push(v)?;
         v = ends[back[v as usize] as usize].0;
@@ -143,7 +148,7 @@ pub fn list_loop(
     Ok(es)
 }
 
-/// The cycle that is named.
+/// The cycle that is named, where a first vertex is left.
 pub fn name_cycle(
     alloc: Global,
     n: u32,

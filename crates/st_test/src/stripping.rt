@@ -32,7 +32,7 @@ pub fn link_edges(alloc: Global, n: u32, ends: &[(u32, u32)]) -> Result<Links, A
     ensures { IfOk result (λ l. IsLinked n ends.now l.last.items l.before.items) }
 {
     let mut last = vec![in alloc; 0u32; n as usize]?;
-    let mut before = Vec::new(alloc);
+    let mut before = Vec::with_capacity(alloc, ends.len())?;
     for e in 0..ends.len() {
         let tail = ends[e].0 as usize;
         before.push(last[tail])?;
@@ -122,7 +122,7 @@ fn release(
 
 /// Takes vertices away, each when no edge comes to it from a vertex that is left, until there is none such.
 ///
-/// Cost: O(n + edges) time, five lists of u32: three of n and two of the number of edges. Not proved.
+/// Cost: O(n + edges) time, five lists of u32: three of n items and two of the number of edges. Not proved.
 pub fn strip(alloc: Global, n: u32, ends: &[(u32, u32)]) -> Result<Order, AllocError>
     requires within { AreWithin n ends.now }
     requires few { length ends.now < 2 ^ 30 }
@@ -131,7 +131,7 @@ pub fn strip(alloc: Global, n: u32, ends: &[(u32, u32)]) -> Result<Order, AllocE
     let links = link_edges(alloc, n, ends)?;
     let mut degree = count_edges_in(alloc, n, ends)?;
     let mut order = list_zeros(alloc, n, &degree)?;
-    let mut edges = Vec::new(alloc);
+    let mut edges = Vec::with_capacity(alloc, ends.len())?;
     let mut place = 0;
     while place < order.len() {
         let last = links.last[order[place] as usize];

@@ -6,7 +6,7 @@ use Rattle.st_test.proofs.stripping.strip.Goals as goal
 pub loop-place-init : goal.loop-place-init
 loop-place-init c = record {
   size = c.in_ok-degree.ensures.size;
-  ready = subst (λ z. IsReleasing c.args.n c.args.ends.now 0 c.in_ok-order.order.items z c.in_ok-degree.degree.items) (sym c.new-edges.ensures.items)
+  ready = subst (λ z. IsReleasing c.args.n c.args.ends.now 0 c.in_ok-order.order.items z c.in_ok-degree.degree.items) (sym c.in_ok-edges.ensures.items)
       (whole_none c.args.n c.args.ends.now c.in_ok-degree.degree.items c.in_ok-order.order.items c.in_ok-degree.ensures
       (subst (λ z. AreZeros c.args.n z c.in_ok-order.order.items) c.deref.ensures.value c.in_ok-order.ensures));
 }
