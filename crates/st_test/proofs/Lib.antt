@@ -1,11 +1,9 @@
 mod BackSteps
-mod CountLemmas
 mod CycleNaming
 mod LongWalks
 mod OneAnswer
 mod OneCycle
 mod PlaceLemmas
 mod PoleLists
-mod StepLemmas
 mod StripGoing
 mod StripSteps
