@@ -1,0 +1,75 @@
+use Rattle.std.proofs.Common.{◌≡◌, ℕ, ◌<◌, ◌^◌, List, ap, ◌∙◌, sym, subst, arith}
+use Rattle.st_ids.specs.Graph.{Graph, HasEnds}
+use Rattle.st_map.specs.Embedded.{Embedded, MapValue}
+use Rattle.st_map.specs.Orbits.{Permutes}
+use Rattle.st_map.specs.Orders.{HasNoLoop, embed, order_at}
+use Rattle.st_map.specs.Tables.{AreEdges, IsBack, IsLawful, IsMap, rotation_of}
+use Rattle.st_map.proofs.OrderLemmas.{lawful_of}
+use Rattle.st_map.proofs.TableLemmas.{is_map, listed_edges, permutes, rotation_is, same_graph}
+use Rattle.std.proofs.Common.{length, get_or}
+use Rattle.st_map.proofs.map.Map.from_orders.Goals as goal
+
+pub check_orders-requires-clause-edges : goal.check_orders-requires-clause-edges
+check_orders-requires-clause-edges c =
+    let h : Graph = record { vertices = c.vertices-n.result; ends = c.ends-ends.result.now } in
+    let eq : c.args.graph.now ≡ record { vertices = c.vertices-n.result; ends = c.ends-ends.result.now } = same_graph c.args.graph.now c.vertices-n.result c.ends-ends.result.now c.vertices-n.ensures.value c.ends-ends.ensures.value in
+    let listed : (v : ℕ) → v < c.vertices-n.result → AreEdges c.ends-ends.result.now (order_at c.args.orders.now v) = listed_edges c.args.graph.now h c.args.orders.now eq c.requires.lists c.requires.edges in
+    listed
+
+pub link_lists-requires-clause-edges : goal.link_lists-requires-clause-edges
+link_lists-requires-clause-edges c =
+    let h : Graph = record { vertices = c.vertices-n.result; ends = c.ends-ends.result.now } in
+    let eq : c.args.graph.now ≡ record { vertices = c.vertices-n.result; ends = c.ends-ends.result.now } = same_graph c.args.graph.now c.vertices-n.result c.ends-ends.result.now c.vertices-n.ensures.value c.ends-ends.ensures.value in
+    let listed : (v : ℕ) → v < c.vertices-n.result → AreEdges c.ends-ends.result.now (order_at c.args.orders.now v) = listed_edges c.args.graph.now h c.args.orders.now eq c.requires.lists c.requires.edges in
+    listed
+
+pub first_ends-requires-clause-edges : goal.first_ends-requires-clause-edges
+first_ends-requires-clause-edges c =
+    let h : Graph = record { vertices = c.vertices-n.result; ends = c.ends-ends.result.now } in
+    let eq : c.args.graph.now ≡ record { vertices = c.vertices-n.result; ends = c.ends-ends.result.now } = same_graph c.args.graph.now c.vertices-n.result c.ends-ends.result.now c.vertices-n.ensures.value c.ends-ends.ensures.value in
+    let listed : (v : ℕ) → v < c.vertices-n.result → AreEdges c.ends-ends.result.now (order_at c.args.orders.now v) = listed_edges c.args.graph.now h c.args.orders.now eq c.requires.lists c.requires.edges in
+    listed
+
+pub link_lists-requires-clause-lawful : goal.link_lists-requires-clause-lawful
+link_lists-requires-clause-lawful c = λ v l. lawful_of c.ends-ends.result.now v (order_at c.args.orders.now v) (c.in_ok-check_orders.ensures v l)
+
+pub lead_back-requires-clause-permutes : goal.lead_back-requires-clause-permutes
+lead_back-requires-clause-permutes c =
+    let h : Graph = record { vertices = c.vertices-n.result; ends = c.ends-ends.result.now } in
+    let eq : c.args.graph.now ≡ record { vertices = c.vertices-n.result; ends = c.ends-ends.result.now } = same_graph c.args.graph.now c.vertices-n.result c.ends-ends.result.now c.vertices-n.ensures.value c.ends-ends.ensures.value in
+    let listed : (v : ℕ) → v < c.vertices-n.result → AreEdges c.ends-ends.result.now (order_at c.args.orders.now v) = listed_edges c.args.graph.now h c.args.orders.now eq c.requires.lists c.requires.edges in
+    let within : HasEnds h = subst HasEnds eq c.ends-ends.ensures.within in
+    let no_loop : HasNoLoop h = subst HasNoLoop eq c.requires.no_loop in
+    let lawful : (v : ℕ) → v < c.vertices-n.result → IsLawful c.ends-ends.result.now v (order_at c.args.orders.now v) =
+    λ v l. lawful_of c.ends-ends.result.now v (order_at c.args.orders.now v) (c.in_ok-check_orders.ensures v l) in
+    subst (λ (z : List ℕ). Permutes (length z) (λ d. get_or z d 0)) (sym c.deref-2.ensures.value)
+    (permutes h c.args.orders.now within no_loop listed lawful c.in_ok-cw.cw.items c.in_ok-cw.ensures)
+
+pub invariant_of-result : goal.invariant_of-result
+invariant_of-result c =
+    let h : Graph = record { vertices = c.vertices-n.result; ends = c.ends-ends.result.now } in
+    let eq : c.args.graph.now ≡ record { vertices = c.vertices-n.result; ends = c.ends-ends.result.now } = same_graph c.args.graph.now c.vertices-n.result c.ends-ends.result.now c.vertices-n.ensures.value c.ends-ends.ensures.value in
+    let listed : (v : ℕ) → v < c.vertices-n.result → AreEdges c.ends-ends.result.now (order_at c.args.orders.now v) = listed_edges c.args.graph.now h c.args.orders.now eq c.requires.lists c.requires.edges in
+    let within : HasEnds h = subst HasEnds eq c.ends-ends.ensures.within in
+    let no_loop : HasNoLoop h = subst HasNoLoop eq c.requires.no_loop in
+    let lawful : (v : ℕ) → v < c.vertices-n.result → IsLawful c.ends-ends.result.now v (order_at c.args.orders.now v) =
+    λ v l. lawful_of c.ends-ends.result.now v (order_at c.args.orders.now v) (c.in_ok-check_orders.ensures v l) in
+    let back : IsBack c.in_ok-cw.cw.items c.in_ok-ccw.ccw.items = subst (λ (z : List ℕ). IsBack z c.in_ok-ccw.ccw.items) c.deref-2.ensures.value c.in_ok-ccw.ensures in
+    let few : c.vertices-n.result < 2 ^ 30 = omega (arith, c.vertices-n.ensures.value, c.vertices-n.ensures.few) in
+    subst (λ (z : List (ℕ × ℕ)). IsMap c.vertices-n.result z c.in_ok-first.first.items c.in_ok-degree.degree.items c.in_ok-cw.cw.items c.in_ok-ccw.ccw.items) (sym c.in_ok-ends.ensures)
+    (is_map h c.args.orders.now within no_loop listed lawful c.in_ok-first.first.items c.in_ok-degree.degree.items c.in_ok-cw.cw.items c.in_ok-ccw.ccw.items c.in_ok-first.ensures c.in_ok-degree.ensures c.in_ok-cw.ensures back few c.ends-ends.ensures.few)
+
+pub returns-clause-map : goal.returns-clause-map
+returns-clause-map c =
+    let h : Graph = record { vertices = c.vertices-n.result; ends = c.ends-ends.result.now } in
+    let eq : c.args.graph.now ≡ record { vertices = c.vertices-n.result; ends = c.ends-ends.result.now } = same_graph c.args.graph.now c.vertices-n.result c.ends-ends.result.now c.vertices-n.ensures.value c.ends-ends.ensures.value in
+    let listed : (v : ℕ) → v < c.vertices-n.result → AreEdges c.ends-ends.result.now (order_at c.args.orders.now v) = listed_edges c.args.graph.now h c.args.orders.now eq c.requires.lists c.requires.edges in
+    let within : HasEnds h = subst HasEnds eq c.ends-ends.ensures.within in
+    let no_loop : HasNoLoop h = subst HasNoLoop eq c.requires.no_loop in
+    let lawful : (v : ℕ) → v < c.vertices-n.result → IsLawful c.ends-ends.result.now v (order_at c.args.orders.now v) =
+    λ v l. lawful_of c.ends-ends.result.now v (order_at c.args.orders.now v) (c.in_ok-check_orders.ensures v l) in
+    let eq_rotation : rotation_of c.vertices-n.result c.in_ok-ends.ends.items c.in_ok-first.first.items c.in_ok-degree.degree.items c.in_ok-cw.cw.items ≡ embed c.args.graph.now c.args.orders.now =
+    ap (λ (z : List (ℕ × ℕ)). rotation_of c.vertices-n.result z c.in_ok-first.first.items c.in_ok-degree.degree.items c.in_ok-cw.cw.items) c.in_ok-ends.ensures
+    ∙ rotation_is h c.args.orders.now within no_loop listed lawful c.in_ok-first.first.items c.in_ok-degree.degree.items c.in_ok-cw.cw.items c.in_ok-first.ensures c.in_ok-degree.ensures c.in_ok-cw.ensures
+    ∙ ap (λ (z : Graph). embed z c.args.orders.now) (sym eq) in
+    ap (λ (z : Embedded). let r : MapValue = record { graph = z; spare = 0 } in r) eq_rotation

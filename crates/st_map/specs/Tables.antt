@@ -1,0 +1,103 @@
+-- How a map is kept: tables by number, and what the loops over them hold.
+--   ring cw k d            k ends from d on, each the entry of the one before it
+--   rotation_of ..         the graph that the tables stand for
+--   IsTableOf n f table    the table has f at the numbers below n
+--   IsMap ..               the tables belong together
+use Rattle.std.specs.Prelude.{ℕ, zero, suc, ◌≡◌, ◌≢◌, ◌⊎◌, ◌+◌, ◌*◌, ◌^◌, ◌<◌, ◌==◌, ◌||◌, Bool, true, cond, nat_lt, List, [], ◌∷◌, map, length, slice_index, slice_index_or}
+use Rattle.std.specs.List.{range_with_len}
+use Rattle.st_ids.specs.Graph.{tail_of, head_of}
+use Rattle.st_map.specs.Counting.{count_below}
+use Rattle.st_map.specs.Embedded.{Embedded, IsRotation, next}
+use Rattle.st_map.specs.Orders.{end_at}
+
+-- k ends from d on, each the table's entry of the one before it
+abbrev pub ring : List ℕ → ℕ → ℕ → List ℕ
+ring cw zero d = []
+ring cw (suc k) d = d ∷ ring cw k (slice_index cw d)
+
+-- the list of v
+abbrev pub ring_at : List ℕ → List ℕ → List ℕ → ℕ → List ℕ
+ring_at first degree cw v = ring cw (slice_index degree v) (slice_index first v)
+
+-- the graph that the tables stand for
+abbrev pub rotation_of : ℕ → List (ℕ × ℕ) → List ℕ → List ℕ → List ℕ → Embedded
+rotation_of n ends first degree cw = record { vertices = n; ends = ends; orders = map (ring_at first degree cw) (range_with_len 0 n) }
+
+-- the table has f at the numbers below n
+pub record IsTableOf (n : ℕ) (f : ℕ → ℕ) (table : List ℕ) : Type 0 where
+  pub size : length table ≡ n
+  pub each : (d : ℕ) → d < n → slice_index table d ≡ f d
+
+-- the table leads back from the entries of another
+pub record IsBack (cw ccw : List ℕ) : Type 0 where
+  pub size : length ccw ≡ length cw
+  pub each : (d : ℕ) → d < length cw → slice_index ccw (slice_index cw d) ≡ d
+
+-- the first d entries are led back
+pub record IsBackBelow (cw : List ℕ) (d : ℕ) (ccw : List ℕ) : Type 0 where
+  pub size : length ccw ≡ length cw
+  pub each : (c : ℕ) → c < d → slice_index ccw (slice_index cw c) ≡ c
+
+-- What the tables of a map are: first ends, degrees, and the clockwise and counter-clockwise next of each end.
+pub record IsMap (n : ℕ) (ends : List (ℕ × ℕ)) (first degree cw ccw : List ℕ) : Type 0 where
+  pub vertices_few : n < 2 ^ 30
+  pub edges_few : length ends < 2 ^ 30
+  pub rotation : IsRotation (rotation_of n ends first degree cw)
+  pub firsts : length first ≡ n
+  pub degrees : length degree ≡ n
+  pub clockwise : IsTableOf (2 * length ends) (next (rotation_of n ends first degree cw)) cw
+  pub counter : IsBack cw ccw
+
+-- whether edge e has an end at v
+abbrev pub is_at : List (ℕ × ℕ) → ℕ → ℕ → Bool
+is_at ends v e = (tail_of ends e == v) || (head_of ends e == v)
+
+-- whether edge e leads from v, and to v
+abbrev pub leaves : List (ℕ × ℕ) → ℕ → ℕ → Bool
+leaves ends v e = tail_of ends e == v
+
+abbrev pub enters : List (ℕ × ℕ) → ℕ → ℕ → Bool
+enters ends v e = head_of ends e == v
+
+-- the degrees that the first k edges make
+pub record AreDegrees (n : ℕ) (ends : List (ℕ × ℕ)) (k : ℕ) (degree : List ℕ) : Type 0 where
+  pub size : length degree ≡ n
+  pub each : (v : ℕ) → v < n → slice_index degree v ≡ count_below k (leaves ends v) + count_below k (enters ends v)
+
+-- all entries are edges
+abbrev pub AreEdges : List (ℕ × ℕ) → List ℕ → Type 0
+AreEdges ends es = (k : ℕ) → k < length es → slice_index es k < length ends
+
+-- the list has the edges at v, each once, and no other: by places
+pub record IsLawful (ends : List (ℕ × ℕ)) (v : ℕ) (es : List ℕ) : Type 0 where
+  pub only : (k : ℕ) → k < length es → is_at ends v (slice_index es k) ≡ true
+  pub all : (e : ℕ) → e < length ends → is_at ends v e ≡ true → (k : ℕ) × (k < length es) × (slice_index es k ≡ e)
+  pub once : (i k : ℕ) → i < k → k < length es → slice_index es i ≢ slice_index es k
+
+-- what holds of the list's first k, with the marks of the edges that were seen
+pub record IsLawfulUpTo (ends : List (ℕ × ℕ)) (v : ℕ) (es : List ℕ) (old seen : List ℕ) (k : ℕ) : Type 0 where
+  pub size : length seen ≡ length ends
+  pub only : (j : ℕ) → j < k → is_at ends v (slice_index es j) ≡ true
+  pub once : (i j : ℕ) → i < j → j < k → slice_index es i ≢ slice_index es j
+  pub marked : (j : ℕ) → j < k → slice_index seen (slice_index es j) ≡ v
+  pub marks : (e : ℕ) → e < length ends → ((slice_index seen e ≡ v) × (j : ℕ) × (j < k) × (slice_index es j ≡ e)) ⊎ (slice_index seen e ≡ slice_index old e)
+
+-- the place after k in a cyclic list
+abbrev pub place_after : ℕ → ℕ → ℕ
+place_after len k = cond (nat_lt (k + 1) len) (k + 1) 0
+
+-- the ends of the first k edges of the list have their next, and the other entries are as before
+pub record IsListLinked (ends : List (ℕ × ℕ)) (v : ℕ) (es : List ℕ) (k : ℕ) (old new : List ℕ) : Type 0 where
+  pub done : (j : ℕ) → j < k → slice_index new (end_at ends v (slice_index es j)) ≡ end_at ends v (slice_index es (place_after (length es) j))
+  pub others : (d : ℕ) → ((j : ℕ) → j < k → d ≢ end_at ends v (slice_index es j)) → slice_index new d ≡ slice_index old d
+
+-- the ends at the vertices below v have their next
+pub record AreListsLinked (ends : List (ℕ × ℕ)) (orders : List (List ℕ)) (v : ℕ) (cw : List ℕ) : Type 0 where
+  pub size : length cw ≡ 2 * length ends
+  pub done : (u k : ℕ) → u < v → k < length (slice_index_or orders u []) → slice_index cw (end_at ends u (slice_index (slice_index_or orders u []) k))
+      ≡ end_at ends u (slice_index (slice_index_or orders u []) (place_after (length (slice_index_or orders u [])) k))
+
+-- the first end of each list that is not empty
+pub record AreFirsts (n : ℕ) (ends : List (ℕ × ℕ)) (orders : List (List ℕ)) (first : List ℕ) : Type 0 where
+  pub size : length first ≡ n
+  pub each : (v : ℕ) → v < n → 0 < length (slice_index_or orders v []) → slice_index first v ≡ end_at ends v (slice_index (slice_index_or orders v []) 0)

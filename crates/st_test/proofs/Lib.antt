@@ -1,0 +1,9 @@
+mod BackSteps
+mod CycleNaming
+mod LongWalks
+mod OneAnswer
+mod OneCycle
+mod PlaceLemmas
+mod PoleLists
+mod StripGoing
+mod StripSteps

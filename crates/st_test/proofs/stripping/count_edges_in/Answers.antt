@@ -1,0 +1,15 @@
+use Rattle.std.proofs.Common.{◌≡◌, ◌<◌, length, get_or, ◌∙◌, arith}
+use Rattle.std.proofs.lemmas.List.{get_or_default}
+use Rattle.st_ids.specs.Graph.{tail_of, head_of}
+use Rattle.st_map.proofs.SumLemmas.{count-le}
+use Rattle.st_test.specs.Stripping.{enters}
+use Rattle.st_test.proofs.stripping.count_edges_in.Goals as goal
+
+pub overflow_add-index_mut : goal.overflow_add-index_mut
+unfolding tail_of head_of
+overflow_add-index_mut c =
+    let w : head_of c.args.ends.now c.loop-e.e < c.args.n = (c.requires.within c.loop-e.e c.loop-e-test.true).1 in
+    let l : head_of c.args.ends.now c.loop-e.e < length c.loop-e.degree.items = omega (arith, c.loop-e.invariant.size) in
+    let r : c.index_mut.result.now ≡ get_or c.loop-e.degree.items (head_of c.args.ends.now c.loop-e.e) 0 =
+    c.index_mut.ensures.value ∙ get_or_default c.loop-e.degree.items (head_of c.args.ends.now c.loop-e.e) c.index_mut.result.now 0 l in
+    omega (arith, c.loop-e.invariant.each (head_of c.args.ends.now c.loop-e.e) w, count-le c.loop-e.e (enters c.args.ends.now (head_of c.args.ends.now c.loop-e.e)), c.requires.few, c.loop-e-test.true)

@@ -1,0 +1,6 @@
+pub mod BackTables
+pub mod Cycle
+pub mod Poles
+pub mod PolesAnswer
+pub mod StripState
+pub mod Stripping

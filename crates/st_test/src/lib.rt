@@ -1,0 +1,81 @@
+//! Tests of a graph: its poles, with evidence where it has none.
+//!
+//! `poles` goes through four tests in their order, and names the first that fails: at least two vertices, no cycle, one
+//! vertex without an edge in, one without an edge out. What each answer means stands in `specs/PolesAnswer.antt`.
+#![tactic(auto)]
+
+mod cycle;
+mod digraph_fault;
+mod digraph_tests;
+pub mod laws;
+mod stripping;
+
+pub use digraph_fault::{DigraphFault, Poles};
+pub use digraph_tests::poles;
+
+#[cfg(test)]
+mod tests {
+    use super::*;
+    use st_ids::{Digraph, VertexId};
+    use std::alloc::Global;
+    use std::test::Fail;
+
+    fn digraph(alloc: Global, n: u32, ends: &[(u32, u32)]) -> Result<Digraph, DigraphFault> {
+        let mut graph = Digraph::new(alloc);
+        if n < 100 {
+            graph.add_vertices(n);
+        }
+        for (tail, head) in ends {
+            if *tail < graph.vertices() && *head < graph.vertices() && graph.edges() < 100 {
+                graph.add_edge(VertexId(*tail), VertexId(*head))?;
+            }
+        }
+        Ok(graph)
+    }
+
+    fn told(alloc: Global, graph: &Digraph) -> Result<String, DigraphFault> {
+        match poles(alloc, graph) {
+            Ok(found) => {
+                let text = format!(in alloc; "source {}, sink {}", found.source.0, found.sink.0)?;
+                Ok(text)
+            }
+            Err(fault) => {
+                let mut text = format!(in alloc; "{fault}")?;
+                if let DigraphFault::Cycle { edges } = &fault {
+                    for e in edges.items() {
+                        text = format!(in alloc; "{text} {}", e.0)?;
+                    }
+                }
+                Ok(text)
+            }
+        }
+    }
+
+    #[test]
+    fn names_the_poles_or_the_first_fault(rt: HostRuntime) -> Result<(), Fail> {
+        let alloc = rt.alloc();
+        let rows: [(u32, &[(u32, u32)], &str); 12] = [
+            (0, &[], "too few vertices: 0"),
+            (1, &[(0, 0)], "too few vertices: 1"),
+            (2, &[(0, 1), (0, 1)], "source 0, sink 1"),
+            (4, &[(2, 1), (2, 3), (1, 0), (3, 0)], "source 2, sink 0"),
+            (3, &[(0, 1), (1, 2), (2, 0)], "cycle of 3 edges 0 1 2"),
+            (2, &[(0, 1), (1, 1)], "cycle of 1 edges 1"),
+            (
+                4,
+                &[(2, 0), (3, 1), (1, 2), (2, 3)],
+                "cycle of 3 edges 2 3 1",
+            ),
+            (3, &[(0, 1), (2, 1), (1, 2), (2, 1)], "cycle of 2 edges 2 1"),
+            (4, &[(0, 1), (1, 0), (2, 3), (3, 2)], "cycle of 2 edges 0 1"),
+            (4, &[(1, 2), (3, 2)], "3 sources, the first 0 and 1"),
+            (3, &[(1, 0), (1, 2)], "2 sinks, the first 0 and 2"),
+            (2, &[], "2 sources, the first 0 and 1"),
+        ];
+        for (n, ends, text) in rows {
+            let graph = digraph(alloc, n, ends)?;
+            assert_eq!(rt; told(alloc, &graph)?.as_str(), text);
+        }
+        Ok(())
+    }
+}
