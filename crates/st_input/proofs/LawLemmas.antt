@@ -1,0 +1,62 @@
+-- What the definitions say together.
+use Rattle.std.proofs.Common.{◌≡◌, ◌<◌, ◌≤◌, ◌^◌, ℕ, Bool, true, false, cond, nat_lt, Option, Some, None, option_map, [], length, codes, refl, subst, arith}
+use Rattle.std.proofs.lemmas.Bool.Decides.{nat_tests}
+use Rattle.gml_core.specs.Trees.{Entry, Entries, listed}
+use Rattle.st_input.specs.Used.{first}
+use Rattle.st_input.specs.Parts.{parts_in}
+use Rattle.st_input.specs.InputGraph.{InputGraph, IsConsistent}
+use Rattle.st_input.specs.Embedding.{embedded_in, embedded_graph}
+use Rattle.st_input.specs.Faults.{or_else, first_fault, node_fault, edge_fault, node_names, ids_fault, orders_fault, edge_names}
+use Rattle.st_input.specs.FirstFault.{limits_fault, outer_fault, parts_fault, text_fault, graph_fault, shape_fault}
+use Rattle.st_input.specs.declared.fault.ShapeFault.{ShapeFault}
+use Rattle.st_input.specs.declared.fault.ShapeFault.TheVariants.{TooManyVertices, TooManyEdges}
+use Rattle.st_input.specs.declared.parts.Parts.{Parts}
+use Rattle.st_input.proofs.FitLemmas.{or_none, consistent_in, labels_fit}
+
+some_same : {A : Type 0} (x y : A) → Some x ≡ Some y → x ≡ y
+some_same x y e = cc
+
+-- where neither limit is passed, both numbers are within
+few_vertices : (n m max_n max_m : ℕ) → limits_fault n m max_n max_m ≡ None → n ≤ max_n
+few_vertices n m max_n max_m e = by (nat_lt max_n n) (TooManyVertices n) (cond (nat_lt max_m m) (Some (TooManyEdges m)) None) refl e
+  where
+    by : (b : Bool) (g : ShapeFault) (f : Option ShapeFault) → nat_lt max_n n ≡ b → cond b (Some g) f ≡ None → n ≤ max_n
+    by true g f is h = absurd (cc)
+    by false g f is h = grind (arith, nat_tests)
+
+few_edges : (n m max_n max_m : ℕ) → limits_fault n m max_n max_m ≡ None → m ≤ max_m
+few_edges n m max_n max_m e = by (nat_lt max_n n) (TooManyVertices n) (cond (nat_lt max_m m) (Some (TooManyEdges m)) None) e rest
+  where
+    last : (c : Bool) (g : ShapeFault) → nat_lt max_m m ≡ c → cond c (Some g) None ≡ None → m ≤ max_m
+    last true g is h = absurd (cc)
+    last false g is h = grind (arith, nat_tests)
+
+    rest : cond (nat_lt max_m m) (Some (TooManyEdges m)) None ≡ None → m ≤ max_m
+    rest h = last (nat_lt max_m m) (TooManyEdges m) refl h
+
+    by : (b : Bool) (g : ShapeFault) (f : Option ShapeFault) → cond b (Some g) f ≡ None → (f ≡ None → m ≤ max_m) → m ≤ max_m
+    by true g f h k = absurd (cc)
+    by false g f h k = k h
+
+last_clear : (a b c d f g : Option ShapeFault) → or_else a (or_else b (or_else c (or_else d (or_else f g)))) ≡ None → g ≡ None
+last_clear a b c d f g e = (or_none f g (or_none d (or_else f g) (or_none c (or_else d (or_else f g)) (or_none b (or_else c (or_else d (or_else f g))) (or_none a (or_else b (or_else c (or_else d (or_else f g)))) e).1).1).1).1).1
+
+limits_clear : (p : Parts) (max_n max_m : ℕ) → parts_fault p max_n max_m ≡ None → limits_fault (length p.nodes) (length p.edges) max_n max_m ≡ None
+limits_clear p max_n max_m e = last_clear (first_fault node_fault [] p.nodes) (first_fault (edge_fault (node_names p.nodes)) [] p.edges) (ids_fault p.edges) (orders_fault (edge_names p.edges) p.nodes) (outer_fault (edge_names p.edges) p.outer) (limits_fault (length p.nodes) (length p.edges) max_n max_m) e
+
+pub fits_together : (text : Entries) (max_n max_m : ℕ) (g : InputGraph) → max_n < 2 ^ 30 → max_m < 2 ^ 30 → shape_fault text max_n max_m ≡ None → embedded_graph text ≡ Some g → IsConsistent g
+unfolding shape_fault embedded_graph
+fits_together text max_n max_m g few_n few_m clear is = by (first (codes "graph") (listed text)) clear is
+  where
+    by : (o : Option Entry) → graph_fault (listed text) o max_n max_m ≡ None → option_map (λ (e : Entry). embedded_in (parts_in e)) o ≡ Some g → IsConsistent g
+    by None h q = absurd (cc)
+    by (Some e) h q =
+        let none = (or_none (text_fault (listed text)) (parts_fault (parts_in e) max_n max_m) h).1 in
+        let within = limits_clear (parts_in e) max_n max_m none in
+        let nodes : length (parts_in e).nodes ≤ max_n = few_vertices (length (parts_in e).nodes) (length (parts_in e).edges) max_n max_m within in
+        let edges : length (parts_in e).edges ≤ max_m = few_edges (length (parts_in e).nodes) (length (parts_in e).edges) max_n max_m within in
+        let small : length (parts_in e).nodes < 2 ^ 30 = omega arith in
+        let less : length (parts_in e).edges < 2 ^ 30 = omega arith in
+        let fit = labels_fit e in
+        let same : embedded_in (parts_in e) ≡ g = some_same (embedded_in (parts_in e)) g q in
+        subst IsConsistent same (consistent_in (parts_in e) max_n max_m none small less fit.0 fit.1)

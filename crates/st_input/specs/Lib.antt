@@ -1,0 +1,13 @@
+pub mod Used
+pub mod Kinds
+pub mod Parts
+pub mod Names
+pub mod Faults
+pub mod EdgeNames
+pub mod Orders
+pub mod InputGraph
+pub mod Embedding
+pub mod FirstFault
+pub mod GraphSpec
+pub mod Found
+pub mod Laws

@@ -1,0 +1,266 @@
+//! The graph of a tree, with its names, labels and orders.
+ghost use Rattle.gml_core.specs.Sound.{IsSound};
+ghost use Rattle.gml_core.specs.Trees.{listed};
+ghost use Rattle.gml_core.specs.Views.{entry_view, view};
+ghost use Rattle.st_input.specs.Embedding.{embedded_graph, embedded_in};
+ghost use Rattle.st_input.specs.Faults.{FailsBy};
+ghost use Rattle.st_input.specs.Found.{IsFound, tabled};
+ghost use Rattle.st_input.specs.FirstFault.{parts_fault, shape_fault, text_fault};
+ghost use Rattle.st_input.specs.InputGraph.{AreLabels, AreListed, IsConsistent};
+ghost use Rattle.st_input.specs.Names.{AreDifferent};
+ghost use Rattle.st_input.specs.Parts.{parts_in};
+ghost use Rattle.st_input.specs.Used.{HasSoundList, datum_of};
+ghost use Rattle.std.specs.Prelude.{◌≡◌, ◌≢◌, ◌<◌, ◌≤◌, ◌*◌, ◌^◌, ℕ, length, option_map, slice_get, None, Some, IfOk, IfSome, MatchOption, OnOk};
+
+use crate::edges::{edges_by_name, orders_of};
+use crate::fault::ShapeFault;
+use crate::kinds::bad_kind_of;
+use crate::names::NameSet;
+use crate::nodes::{ends_of, nodes_by_name};
+use crate::orders::whole_orders;
+use crate::outer::{limits, outer_of};
+use crate::parts::{Parts, parts_of, second_at};
+use crate::tables::{edge_table, graph_of, vertex_table};
+use crate::used::first_pair;
+use gml_core::{Pair, Tree};
+use sqlite_items::Items;
+use st_ids::{Dart, Digraph, EdgeList, IdVec, Names, NoMemory, VertexId};
+use std::alloc::Global;
+use std::marker::Model;
+
+/// A graph with its names, labels, orders, outer face and written paths. A contract sees them as plain data
+/// (`InputGraph`), whose tables fit together.
+#[derive(Drop)]
+pub struct GraphSpec {
+    graph: Digraph,
+    names: Names,
+    orders: IdVec<VertexId, EdgeList>,
+    outer: Option<Dart>,
+    paths: Items<Items<i64>>,
+    by_name: NameSet,
+}
+
+impl Model for GraphSpec {
+    ghost use Rattle.std.specs.Prelude.{◌≡◌, option_map};
+    ghost use Rattle.st_input.specs.InputGraph.{InputGraph};
+
+    ghost Value = { InputGraph };
+
+    ghost use Rattle.st_input.specs.GraphSpec.{graph_view, IsIndexed};
+
+    ghost view = { graph_view };
+
+    ghost invariant = { IsIndexed };
+}
+
+impl GraphSpec {
+    /// The digraph: vertices and edges in file order.
+    pub fn graph(&self) -> &Digraph
+        ensures { result.now ≡ self.now.graph }
+    {
+        &self.graph
+    }
+
+    /// The name of each vertex and edge, and the shown label of each vertex that has one.
+    pub fn names(&self) -> &Names
+        ensures vertex { result.now.vertex ≡ self.now.vertex_names }
+        ensures edge { result.now.edge ≡ self.now.edge_names }
+        ensures label { result.now.label ≡ self.now.labels }
+
+        // There is one of each, the vertex names differ, and what is to be shown can be shown.
+        ensures vertices { length self.now.vertex_names ≡ self.now.graph.vertices }
+        ensures edges { length self.now.edge_names ≡ length self.now.graph.ends }
+        ensures labels { length self.now.labels ≡ self.now.graph.vertices }
+        ensures different { AreDifferent self.now.vertex_names }
+        ensures shown { AreLabels self.now.labels }
+    {
+        &self.names
+    }
+
+    /// The clockwise list of the edges at each vertex: the written one, else the default.
+    pub fn orders(&self) -> &IdVec<VertexId, EdgeList>
+        ensures value { result.now ≡ self.now.orders }
+        ensures size { length self.now.orders ≡ self.now.graph.vertices }
+        ensures listed { AreListed self.now.graph self.now.orders }
+    {
+        &self.orders
+    }
+
+    /// An end of an edge whose face is the outer one, where the file names one: `2e + side`.
+    pub fn outer(&self) -> Option<Dart>
+        ensures value { option_map (λ d. d.0) result ≡ self.now.outer }
+        ensures within { IfSome result (λ d. d.0 < 2 * length self.now.graph.ends) }
+    {
+        self.outer
+    }
+
+    /// The vertex with a name; `None` where there is none. Cost: O(1) on average.
+    pub fn vertex_of(&self, name: i64) -> Option<VertexId>
+        ensures vertex { MatchOption result ((v : ℕ) → slice_get self.now.vertex_names v ≢ Some name) (λ v. slice_get self.now.vertex_names v.0 ≡ Some name) }
+        ensures within { IfSome result (λ v. v.0 < self.now.graph.vertices) }
+    {
+        match self.by_name.find(name) {
+            Some(n) => Some(VertexId(n)),
+            None => None,
+        }
+    }
+}
+
+/// What the names of a graph lead to: the ends of its edges, its written orders, and its outer end.
+#[derive(Drop)]
+struct Found {
+    by_name: NameSet,
+    ends: Items<(u32, u32)>,
+    orders: IdVec<VertexId, EdgeList>,
+    outer: Option<Dart>,
+}
+
+fn look_up(
+    alloc: Global,
+    parts: &Parts,
+    max_vertices: u32,
+    max_edges: u32,
+) -> Result<Found, ShapeFault>
+    requires nodes { length parts.now.nodes < 2 ^ 31 }
+    requires edges { length parts.now.edges < 2 ^ 31 }
+    ensures found { IfOk result (IsFound parts.now) }
+    ensures vertices { OnOk result (length parts.now.nodes ≤ max_vertices) }
+    ensures edges { OnOk result (length parts.now.edges ≤ max_edges) }
+    ensures none { OnOk result (parts_fault parts.now max_vertices max_edges ≡ None) }
+    ensures fault { FailsBy (parts_fault parts.now max_vertices max_edges) result }
+{
+    let nodes = parts.nodes.as_slice();
+    let edges = parts.edges.as_slice();
+    let by_name = nodes_by_name(alloc, nodes)?;
+    let ends = ends_of(alloc, &by_name, edges)?;
+    let edge_names = edges_by_name(alloc, edges)?;
+    let orders = orders_of(alloc, &edge_names, nodes)?;
+    let outer = outer_of(&edge_names, parts.outer)?;
+    limits(
+        nodes.len() as u32,
+        edges.len() as u32,
+        max_vertices,
+        max_edges,
+    )?;
+    Ok(Found {
+        by_name,
+        ends,
+        orders,
+        outer,
+    })
+}
+
+fn assemble(
+    graph: Digraph,
+    names: Names,
+    orders: IdVec<VertexId, EdgeList>,
+    outer: Option<Dart>,
+    paths: Items<Items<i64>>,
+    by_name: NameSet,
+) -> GraphSpec
+    requires index { by_name ≡ names.vertex }
+    requires consistent { IsConsistent (tabled graph names orders outer paths) }
+    ensures { result ≡ tabled graph names orders outer paths }
+{
+    GraphSpec {
+        graph,
+        names,
+        orders,
+        outer,
+        paths,
+        by_name,
+    }
+}
+
+fn build(alloc: Global, parts: Parts, found: Found) -> Result<GraphSpec, NoMemory>
+    requires found { IsFound parts found }
+    requires consistent { IsConsistent (embedded_in parts) }
+    requires vertices { length parts.nodes < 2 ^ 30 }
+    requires edges { length parts.edges < 2 ^ 30 }
+    ensures { IfOk result (λ s. s ≡ embedded_in parts) }
+{
+    let Parts {
+        nodes,
+        labels,
+        edges,
+        paths,
+        ..
+    } = parts;
+    let Found {
+        by_name,
+        ends,
+        orders,
+        outer,
+    } = found;
+    let graph = graph_of(alloc, nodes.len() as u32, ends)?;
+    let orders = whole_orders(alloc, orders, nodes.as_slice(), graph.ends())?;
+    let names = Names {
+        vertex: vertex_table(alloc, nodes.as_slice())?,
+        edge: edge_table(alloc, edges.as_slice())?,
+        label: labels,
+    };
+    Ok(assemble(graph, names, orders, outer, paths, by_name))
+}
+
+fn spec_of(
+    alloc: Global,
+    graph: &Pair,
+    max_vertices: u32,
+    max_edges: u32,
+) -> Result<GraphSpec, ShapeFault>
+    requires sound { HasSoundList (datum_of (entry_view graph.now)) }
+    requires vertices { max_vertices < 2 ^ 30 }
+    requires edges { max_edges < 2 ^ 30 }
+    ensures value { IfOk result (λ s. s ≡ embedded_in (parts_in (entry_view graph.now))) }
+    ensures none { OnOk result (parts_fault (parts_in (entry_view graph.now)) max_vertices max_edges ≡ None) }
+    ensures fault { FailsBy (parts_fault (parts_in (entry_view graph.now)) max_vertices max_edges) result }
+{
+    let parts = parts_of(alloc, graph)?;
+    let found = look_up(alloc, &parts, max_vertices, max_edges)?;
+    Ok(build(alloc, parts, found)?)
+}
+
+fn text_of(tree: &Tree) -> Result<(), ShapeFault>
+    requires { IsSound (view tree.now) }
+    ensures none { OnOk result (text_fault (listed (view tree.now)) ≡ None) }
+    ensures fault { FailsBy (text_fault (listed (view tree.now))) result }
+{
+    if let Some(at) = second_at(tree, b"graph") {
+        return Err(ShapeFault::SecondGraph { at });
+    }
+    if let Some(at) = bad_kind_of(tree) {
+        return Err(ShapeFault::BadKind { at });
+    }
+    Ok(())
+}
+
+#[tactic(auto, unfolding(crate::specs::Embedding::embedded_graph, crate::specs::FirstFault::shape_fault))]
+/// The graph of a tree, or its first fault.
+///
+/// The limits are the greatest numbers of vertices and edges that are allowed. Faults are looked for in the order of
+/// `ShapeFault`: no graph, a second one, a value of the wrong kind, then the nodes, the ends of edges, the ids of
+/// edges, the orders, the outer face, and last the limits.
+///
+/// Errors: the first fault, with its place or name; `NoMemory`.
+/// Cost: O(n) on average, for a tree of n pairs. The tree is only read.
+pub fn read_graph(
+    alloc: Global,
+    tree: &Tree,
+    max_vertices: u32,
+    max_edges: u32,
+) -> Result<GraphSpec, ShapeFault>
+    requires sound { IsSound (view tree.now) }
+    requires vertices { max_vertices < 2 ^ 30 }
+    requires edges { max_edges < 2 ^ 30 }
+    ensures value { IfOk result (λ s. embedded_graph (view tree.now) ≡ Some s) }
+    ensures none { OnOk result (shape_fault (view tree.now) max_vertices max_edges ≡ None) }
+    ensures fault { FailsBy (shape_fault (view tree.now) max_vertices max_edges) result }
+{
+    match first_pair(tree, b"graph") {
+        Some(graph) => {
+            text_of(tree)?;
+            spec_of(alloc, graph, max_vertices, max_edges)
+        }
+        None => Err(ShapeFault::NoGraph),
+    }
+}

@@ -1,0 +1,94 @@
+//! Vertices by their names, and the ends of edges.
+ghost use Rattle.st_input.specs.Faults.{FailsBy, edge_fault, end_fault, ends_fault, ends_in, first_fault, name_fault, node_fault, node_name, node_names, pair_in};
+ghost use Rattle.st_input.specs.Names.{number_of};
+ghost use Rattle.st_input.specs.Orders.{IsWithin};
+ghost use Rattle.std.specs.Prelude.{◌≡◌, [], ◌∷◌, ◌++◌, ◌<◌, ◌^◌, length, All, None, Some, IfOk, OnOk};
+
+use crate::fault::ShapeFault;
+use crate::names::NameSet;
+use crate::parts::{Edge, Node, put};
+use sqlite_items::Items;
+use std::alloc::Global;
+
+fn add_node(set: &mut NameSet, node: &Node) -> Result<(), ShapeFault>
+    ensures names { OnOk result (set.new ≡ set.old ++ node_name node.now ∷ []) }
+    ensures none { OnOk result (name_fault set.old node.now.at node.now.id ≡ None) }
+    ensures fault { FailsBy (name_fault set.old node.now.at node.now.id) result }
+{
+    match node.id {
+        Some(id) => {
+            if set.add(id)? {
+                Ok(())
+            } else {
+                Err(ShapeFault::SameId { id })
+            }
+        }
+        None => Err(ShapeFault::NoId { at: node.at }),
+    }
+}
+
+/// The names of the nodes.
+pub(crate) fn nodes_by_name(alloc: Global, nodes: &[Node]) -> Result<NameSet, ShapeFault>
+    ensures names { IfOk result (λ s. s ≡ node_names nodes.now) }
+    ensures size { IfOk result (λ s. length s ≡ length nodes.now) }
+    ensures none { OnOk result (first_fault node_fault [] nodes.now ≡ None) }
+    ensures fault { FailsBy (first_fault node_fault [] nodes.now) result }
+{
+    let mut set = NameSet::new(alloc);
+    for node in nodes {
+        add_node(&mut set, node)?;
+    }
+    Ok(set)
+}
+
+fn end_of(vertices: &NameSet, edge: u32, name: i64) -> Result<u32, ShapeFault>
+    requires { length vertices.now < 2 ^ 32 }
+    ensures number { IfOk result (λ v. number_of vertices.now name ≡ Some v) }
+    ensures within { IfOk result (λ v. v < length vertices.now) }
+    ensures none { OnOk result (end_fault vertices.now edge name ≡ None) }
+    ensures fault { FailsBy (end_fault vertices.now edge name) result }
+{
+    match vertices.find(name) {
+        Some(n) => Ok(n),
+        None => Err(ShapeFault::UnknownEnd { edge, id: name }),
+    }
+}
+
+fn pair_of(vertices: &NameSet, i: u32, edge: Edge) -> Result<(u32, u32), ShapeFault>
+    requires { length vertices.now < 2 ^ 32 }
+    ensures ends { IfOk result (λ a. a ≡ pair_in vertices.now edge) }
+    ensures within { IfOk result (IsWithin (length vertices.now)) }
+    ensures none { OnOk result (ends_fault vertices.now i edge.source edge.target ≡ None) }
+    ensures fault { FailsBy (ends_fault vertices.now i edge.source edge.target) result }
+{
+    match (edge.source, edge.target) {
+        (Some(source), Some(target)) => {
+            let tail = end_of(vertices, i, source)?;
+            let head = end_of(vertices, i, target)?;
+            Ok((tail, head))
+        }
+        _ => Err(ShapeFault::NoEnd { edge: i }),
+    }
+}
+
+/// The tail and the head of each edge.
+pub(crate) fn ends_of(
+    alloc: Global,
+    vertices: &NameSet,
+    edges: &[Edge],
+) -> Result<Items<(u32, u32)>, ShapeFault>
+    requires vertices { length vertices.now < 2 ^ 32 }
+    requires edges { length edges.now < 2 ^ 32 }
+    ensures ends { IfOk result (λ a. a ≡ ends_in vertices.now edges.now) }
+    ensures size { IfOk result (λ a. length a ≡ length edges.now) }
+    ensures within { IfOk result (All (IsWithin (length vertices.now))) }
+    ensures none { OnOk result (first_fault (edge_fault vertices.now) [] edges.now ≡ None) }
+    ensures fault { FailsBy (first_fault (edge_fault vertices.now) [] edges.now) result }
+{
+    let mut ends = Items::new(alloc);
+    for (i, edge) in edges.iter().enumerate() {
+        let pair = pair_of(vertices, i as u32, *edge)?;
+        put(&mut ends, pair)?;
+    }
+    Ok(ends)
+}

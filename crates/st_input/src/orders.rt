@@ -1,0 +1,128 @@
+//! The edges at each vertex, clockwise: where no order is written, the default one is filled in.
+//!
+//! One pass forward over the edges puts each behind the list of its tail, and one pass backward behind the list of
+//! its head. Cost: O(V + E) on average.
+ghost use Rattle.st_input.specs.Orders.{AreAt, Filled, IsWithin, default_order, extended, ins_from, is_free, one, outs_from};
+ghost use Rattle.std.specs.Prelude.{◌≡◌, ℕ, [], ◌∷◌, ◌++◌, ◌<◌, ◌^◌, length, map, slice_index_or, slice_set, All, IfOk, OnOk};
+
+use crate::parts::Node;
+use st_ids::{EdgeId, EdgeList, IdVec, NoMemory, VertexId};
+use std::alloc::Global;
+
+fn free_of(alloc: Global, nodes: &[Node]) -> Result<IdVec<VertexId, bool>, NoMemory>
+    requires { length nodes.now < 2 ^ 31 }
+    ensures value { IfOk result (λ o. o ≡ map is_free nodes.now) }
+    ensures size { IfOk result (λ o. length o ≡ length nodes.now) }
+{
+    let mut free = IdVec::new(alloc);
+    for node in nodes {
+        let _: VertexId = free.push(node.order.is_none())?;
+    }
+    Ok(free)
+}
+
+fn push_at(
+    alloc: Global,
+    orders: &mut IdVec<VertexId, EdgeList>,
+    v: VertexId,
+    e: EdgeId,
+) -> Result<(), NoMemory>
+    requires { v.0 < length orders.old }
+    ensures { OnOk result (orders.new ≡ slice_set orders.old v.0 (slice_index_or orders.old v.0 [] ++ e.0 ∷ [])) }
+{
+    let mut list = orders.replace(v, EdgeList::new(alloc));
+    list.push(e)?;
+    orders.set(v, list);
+    Ok(())
+}
+
+#[tactic(auto, using(crate::proofs::Fills::put_more))]
+fn put_free(
+    alloc: Global,
+    orders: &mut IdVec<VertexId, EdgeList>,
+    free: &IdVec<VertexId, bool>,
+    v: VertexId,
+    e: EdgeId,
+) -> Result<(), NoMemory>
+    requires size { length orders.old ≡ length free.now }
+    requires within { v.0 < length free.now }
+    ensures size { OnOk result (length orders.new ≡ length free.now) }
+    ensures lists { OnOk result (AreAt (length free.now) orders.new (extended free.now orders.old (one v.0 e.0))) }
+{
+    if *free.get(v) {
+        push_at(alloc, orders, v, e)?;
+    }
+    Ok(())
+}
+
+fn fill_outs(
+    alloc: Global,
+    orders: &mut IdVec<VertexId, EdgeList>,
+    free: &IdVec<VertexId, bool>,
+    ends: &[(u32, u32)],
+) -> Result<(), NoMemory>
+    requires size { length orders.old ≡ length free.now }
+    requires within { All (IsWithin (length free.now)) ends.now }
+    requires small { length ends.now < 2 ^ 32 }
+    ensures filled { OnOk result (Filled free.now orders.old orders.new (outs_from 0 ends.now)) }
+{
+    for (i, pair) in ends.iter().enumerate() {
+        put_free(alloc, orders, free, VertexId(pair.0), EdgeId(i as u32))?;
+    }
+    Ok(())
+}
+
+fn fill_ins(
+    alloc: Global,
+    orders: &mut IdVec<VertexId, EdgeList>,
+    free: &IdVec<VertexId, bool>,
+    ends: &[(u32, u32)],
+) -> Result<(), NoMemory>
+    requires size { length orders.old ≡ length free.now }
+    requires within { All (IsWithin (length free.now)) ends.now }
+    requires small { length ends.now < 2 ^ 32 }
+    ensures filled { OnOk result (Filled free.now orders.old orders.new (ins_from 0 ends.now)) }
+{
+    let mut i = ends.len();
+    while i > 0 {
+        i -= 1;
+        put_free(alloc, orders, free, VertexId(ends[i].1), EdgeId(i as u32))?;
+    }
+    Ok(())
+}
+
+#[tactic(auto, using(crate::proofs::Fills::filled_twice))]
+fn fill_free(
+    alloc: Global,
+    orders: &mut IdVec<VertexId, EdgeList>,
+    free: &IdVec<VertexId, bool>,
+    ends: &[(u32, u32)],
+) -> Result<(), NoMemory>
+    requires size { length orders.old ≡ length free.now }
+    requires within { All (IsWithin (length free.now)) ends.now }
+    requires small { length ends.now < 2 ^ 32 }
+    ensures filled { OnOk result (Filled free.now orders.old orders.new (default_order ends.now)) }
+{
+    fill_outs(alloc, orders, free, ends)?;
+    fill_ins(alloc, orders, free, ends)
+}
+
+/// The written orders, with the default where none is written.
+pub(crate) fn whole_orders(
+    alloc: Global,
+    orders: IdVec<VertexId, EdgeList>,
+    nodes: &[Node],
+    ends: &[(u32, u32)],
+) -> Result<IdVec<VertexId, EdgeList>, NoMemory>
+    requires size { length orders ≡ length nodes.now }
+    requires within { All (IsWithin (length nodes.now)) ends.now }
+    requires nodes { length nodes.now < 2 ^ 31 }
+    requires ends { length ends.now < 2 ^ 32 }
+    ensures size { IfOk result (λ os. length os ≡ length nodes.now) }
+    ensures orders { IfOk result (λ os. AreAt (length nodes.now) os (extended (map is_free nodes.now) orders (default_order ends.now))) }
+{
+    let mut orders = orders;
+    let free = free_of(alloc, nodes)?;
+    fill_free(alloc, &mut orders, &free, ends)?;
+    Ok(orders)
+}

@@ -1,0 +1,130 @@
+//! The pairs of a list that are used, by their keys.
+ghost use Rattle.gml_core.specs.Sound.{IsSound};
+ghost use Rattle.gml_core.specs.Trees.{listed};
+ghost use Rattle.gml_core.specs.Views.{datum, entry_view, view};
+ghost use Rattle.st_input.specs.Used.{HasSoundList, datum_of, first, first_int, first_list, first_str, has_key, int_in, list_in, place_of, str_in};
+ghost use Rattle.std.specs.Prelude.{◌≡◌, ◌<◌, ◌+◌, ◌∷◌, length, drop, option_map, option_copied, IfSome};
+
+use gml_core::{Pair, Tree, Value};
+use st_ids::Text;
+
+/// Pair i of a list, which the rest of the list begins with.
+#[tactic(auto, using(crate::proofs::PairLemmas::rest_at))]
+pub(crate) fn pair_at(tree: &Tree, i: u32) -> &Pair
+    requires sound { IsSound (view tree.now) }
+    requires within { i < length (listed (view tree.now)) }
+    ensures rest { drop i (listed (view tree.now)) ≡ entry_view result.now ∷ drop (i + 1) (listed (view tree.now)) }
+    ensures sound { HasSoundList (datum_of (entry_view result.now)) }
+{
+    tree.pair(i)
+}
+
+pub(crate) fn is_key(pair: &Pair, key: &[u8]) -> bool
+    ensures { result ≡ has_key key.now (entry_view pair.now) }
+{
+    pair.key.bytes() == key
+}
+
+pub(crate) fn place(pair: &Pair) -> u32
+    ensures { result ≡ place_of (entry_view pair.now) }
+{
+    pair.at
+}
+
+fn value(pair: &Pair) -> &Value
+    ensures { datum result.now ≡ datum_of (entry_view pair.now) }
+{
+    &pair.value
+}
+
+fn int_value(value: &Value) -> Option<i64>
+    ensures { result ≡ int_in (datum value.now) }
+{
+    match value {
+        Value::Int(n) => Some(*n),
+        _ => None,
+    }
+}
+
+fn str_value(value: &Value) -> Option<&Text>
+    ensures { option_copied result ≡ str_in (datum value.now) }
+{
+    match value {
+        Value::Str(text) => Some(text),
+        _ => None,
+    }
+}
+
+fn list_value(value: &Value) -> Option<&Tree>
+    requires { HasSoundList (datum value.now) }
+    ensures list { option_map (λ t. listed (view t.now)) result ≡ list_in (datum value.now) }
+    ensures sound { IfSome result (λ t. IsSound (view t.now)) }
+{
+    match value {
+        Value::List(tree) => Some(tree),
+        _ => None,
+    }
+}
+
+/// The integer that the pair's value is.
+pub(crate) fn int_of(pair: &Pair) -> Option<i64>
+    ensures { result ≡ int_in (datum_of (entry_view pair.now)) }
+{
+    int_value(value(pair))
+}
+
+/// The string that the pair's value is.
+pub(crate) fn str_of(pair: &Pair) -> Option<&Text>
+    ensures { option_copied result ≡ str_in (datum_of (entry_view pair.now)) }
+{
+    str_value(value(pair))
+}
+
+/// The list that the pair's value is.
+pub(crate) fn list_of(pair: &Pair) -> Option<&Tree>
+    requires { HasSoundList (datum_of (entry_view pair.now)) }
+    ensures list { option_map (λ t. listed (view t.now)) result ≡ list_in (datum_of (entry_view pair.now)) }
+    ensures sound { IfSome result (λ t. IsSound (view t.now)) }
+{
+    list_value(value(pair))
+}
+
+/// The first pair with the key.
+pub(crate) fn first_pair<'a>(tree: &'a Tree, key: &[u8]) -> Option<&'a Pair>
+    requires { IsSound (view tree.now) }
+    ensures pair { option_map (λ p. entry_view p.now) result ≡ first key.now (listed (view tree.now)) }
+    ensures sound { IfSome result (λ p. HasSoundList (datum_of (entry_view p.now))) }
+{
+    for i in 0..tree.len() {
+        let pair = pair_at(tree, i);
+        if is_key(pair, key) {
+            return Some(pair);
+        }
+    }
+    None
+}
+
+/// The integer of the first pair with the key.
+pub(crate) fn int_at(tree: &Tree, key: &[u8]) -> Option<i64>
+    requires { IsSound (view tree.now) }
+    ensures { result ≡ first_int key.now (listed (view tree.now)) }
+{
+    int_of(first_pair(tree, key)?)
+}
+
+/// The string of the first pair with the key.
+pub(crate) fn str_at<'a>(tree: &'a Tree, key: &[u8]) -> Option<&'a Text>
+    requires { IsSound (view tree.now) }
+    ensures { option_copied result ≡ first_str key.now (listed (view tree.now)) }
+{
+    str_of(first_pair(tree, key)?)
+}
+
+/// The list of the first pair with the key.
+pub(crate) fn list_at<'a>(tree: &'a Tree, key: &[u8]) -> Option<&'a Tree>
+    requires { IsSound (view tree.now) }
+    ensures list { option_map (λ t. listed (view t.now)) result ≡ first_list key.now (listed (view tree.now)) }
+    ensures sound { IfSome result (λ t. IsSound (view t.now)) }
+{
+    list_of(first_pair(tree, key)?)
+}
