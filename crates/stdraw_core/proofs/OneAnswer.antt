@@ -1,0 +1,188 @@
+-- Words and bytes have at most one answer: each stage has, and so has one stage after another.
+use Rattle.std.proofs.Common.{◌≡◌, ℕ, suc, ◌+◌, ◌*◌, ◌<◌, ◌≤◌, inl, inr, ℤ, pos, Bool, true, false, List, [], ◌∷◌, ◌++◌, length, get_or, Some, None, refl, sym, ap, ◌∙◌, subst, arith}
+use Rattle.std.specs.Prelude.{Result, Ok, Err}
+use Rattle.gml_core.specs.Trees.{Entries}
+use Rattle.gml_core.proofs.Unique.{one_tree, one_first, not_both}
+use Rattle.st_input.specs.InputGraph.{InputGraph}
+use Rattle.stdraw_core.specs.declared.words.Command.{Command}
+use Rattle.stdraw_core.specs.declared.words.Command.TheVariants.{Query}
+use Rattle.stdraw_core.specs.declared.stop.Refusal.{Refusal}
+use Rattle.stdraw_core.specs.declared.stop.Refusal.TheVariants.{Words, TooManyBytes, Gml, Shape, UnknownVertex}
+use Rattle.stdraw_core.specs.Stages.{Then, refuses, goes_on, IsOne}
+use Rattle.stdraw_core.specs.Words.{IsName, AreNames, IsCommand}
+use Rattle.stdraw_core.specs.Query.{names_of, AreKnown, IsFirstUnknown, IsLine, line_of_names, AreLines, no_line, one_line}
+use Rattle.stdraw_core.specs.Answer.{Asks, IsFew, IsTree, IsGraph, Answers, AnswersFile, HaveOneAnswer, byte_limit}
+
+-- ---- one stage after another
+same_ok : {A : Type 0} (x y : A) → (let a : Result A Refusal = Ok x in a) ≡ Ok y → x ≡ y
+same_ok x y h = cc
+
+mixed : {A : Type 0} (x : A) (r : Refusal) → (let a : Result A Refusal = Ok x in a) ≡ Err r → ⊥
+mixed x r h = cc
+
+one_then : {A B : Type 0} (first : Result A Refusal → Type 0) (next : A → Result B Refusal → Type 0) → IsOne first → ((a : A) → IsOne (next a)) → IsOne (Then first next)
+one_then {A} {B} first next one_first_stage one_next x y (refuses r h e) (refuses s k f) =
+    e ∙ wrap (one_first_stage (Err r) (Err s) h k) ∙ sym f
+  where
+    wrap : {r s : Refusal} → (let a : Result A Refusal = Err r in a) ≡ Err s → (let b : Result B Refusal = Err r in b) ≡ Err s
+    wrap {r} {s} q = let same : r ≡ s = cc in ap (λ (z : Refusal). let b : Result B Refusal = Err z in b) same
+one_then first next one_first_stage one_next x y (refuses r h e) (goes_on b k f) = absurd (mixed b r (one_first_stage (Ok b) (Err r) k h))
+one_then first next one_first_stage one_next x y (goes_on a h e) (refuses s k f) = absurd (mixed a s (one_first_stage (Ok a) (Err s) h k))
+one_then first next one_first_stage one_next x y (goes_on a h e) (goes_on b k f) =
+    one_next b x y (subst (λ z. next z x) (same_ok a b (one_first_stage (Ok a) (Ok b) h k)) e) f
+
+-- ---- the command
+pair_same : (p q : ℤ × ℤ) → p.0 ≡ q.0 → p.1 ≡ q.1 → p ≡ q
+pair_same p q e f = ap (λ (z : ℤ). let r : ℤ × ℤ = (z, p.1) in r) e ∙ ap (λ (z : ℤ). let r : ℤ × ℤ = (q.0, z) in r) f
+
+same_list : (ps qs : List (ℤ × ℤ)) → length ps ≡ length qs → ((i : ℕ) → i < length ps → get_or ps i (pos 0, pos 0) ≡ get_or qs i (pos 0, pos 0)) → ps ≡ qs
+same_list [] [] n each = refl
+same_list [] (q ∷ qs) n each = absurd (omega arith)
+same_list (p ∷ ps) [] n each = absurd (omega arith)
+same_list (p ∷ ps) (q ∷ qs) n each =
+    ap (λ (z : ℤ × ℤ). z ∷ ps) (each 0 (omega arith)) ∙ ap (λ (zs : List (ℤ × ℤ)). q ∷ zs) (same_list ps qs (omega arith) (λ i l. each (suc i) (omega arith)))
+
+same_name : (word : List ℕ) (n m : ℤ) → IsName word n → IsName word m → n ≡ m
+same_name word n m h k = sym h.value ∙ k.value
+
+same_names : (words : List (List ℕ)) (ps qs : List (ℤ × ℤ)) → AreNames words ps → AreNames words qs → ps ≡ qs
+same_names words ps qs h k =
+    let n : length ps ≡ length qs = omega (arith, h.size, k.size) in
+    same_list ps qs n (λ i l.
+    let l' : i < length qs = omega arith in
+    pair_same (get_or ps i (pos 0, pos 0)) (get_or qs i (pos 0, pos 0))
+    (same_name (get_or words (2 * i) []) _ _ (h.first i l) (k.first i l'))
+    (same_name (get_or words (2 * i + 1) []) _ _ (h.second i l) (k.second i l')))
+
+same_command : (words : List (List ℕ)) (c d : Command) → IsCommand words c → IsCommand words d → c ≡ d
+same_command [] c d h k = absurd h
+same_command (name ∷ words) (Query ps) (Query qs) h k = ap (λ (z : List (ℤ × ℤ)). Query z) (same_names words ps qs h.3 k.3)
+
+asks_err : (words : List (List ℕ)) (r : Refusal) → Asks words (Err r) → (r ≡ Words) × ((c : Command) → IsCommand words c → ⊥)
+asks_err words Words h = (refl, h)
+asks_err words TooManyBytes h = absurd h
+asks_err words (Gml f) h = absurd h
+asks_err words (Shape f) h = absurd h
+asks_err words (UnknownVertex n) h = absurd h
+
+ok : {A : Type 0} (x y : A) → x ≡ y → (let a : Result A Refusal = Ok x in a) ≡ Ok y
+ok {A} x y e = ap (λ (z : A). let a : Result A Refusal = Ok z in a) e
+
+err : {A : Type 0} (r s : Refusal) → r ≡ s → (let a : Result A Refusal = Err r in a) ≡ Err s
+err {A} r s e = ap (λ (z : Refusal). let a : Result A Refusal = Err z in a) e
+
+asks_one : (words : List (List ℕ)) → IsOne (Asks words)
+asks_one words (Ok c) (Ok d) h k = ok c d (same_command words c d h k)
+asks_one words (Ok c) (Err s) h k = absurd ((asks_err words s k).1 c h)
+asks_one words (Err r) (Ok d) h k = absurd ((asks_err words r h).1 d k)
+asks_one words (Err r) (Err s) h k = err r s ((asks_err words r h).0 ∙ sym (asks_err words s k).0)
+
+-- ---- the bytes
+few_err : (bytes : List ℕ) (r : Refusal) → IsFew bytes (Err r) → (r ≡ TooManyBytes) × (byte_limit < length bytes)
+few_err bytes Words h = absurd h
+few_err bytes TooManyBytes h = (refl, h)
+few_err bytes (Gml f) h = absurd h
+few_err bytes (Shape f) h = absurd h
+few_err bytes (UnknownVertex n) h = absurd h
+
+few_one : (bytes : List ℕ) → IsOne (IsFew bytes)
+few_one bytes (Ok u) (Ok v) h k = refl
+few_one bytes (Ok u) (Err s) h k = let few : length bytes ≤ byte_limit = h in absurd (omega (arith, (few_err bytes s k).1))
+few_one bytes (Err r) (Ok v) h k = let few : length bytes ≤ byte_limit = k in absurd (omega (arith, (few_err bytes r h).1))
+few_one bytes (Err r) (Err s) h k = err r s ((few_err bytes r h).0 ∙ sym (few_err bytes s k).0)
+
+-- ---- the tree
+tree_apart : (bytes : List ℕ) (tree : Entries) (r : Refusal) → IsTree bytes (Ok tree) → IsTree bytes (Err r) → ⊥
+tree_apart bytes tree Words h k = k
+tree_apart bytes tree TooManyBytes h k = k
+tree_apart bytes tree (Gml f) h k = not_both bytes tree f h k
+tree_apart bytes tree (Shape f) h k = k
+tree_apart bytes tree (UnknownVertex n) h k = k
+
+tree_err : (bytes : List ℕ) (r s : Refusal) → IsTree bytes (Err r) → IsTree bytes (Err s) → r ≡ s
+tree_err bytes (Gml f) (Gml g) h k = ap (λ z. Gml z) (one_first bytes f g h k)
+tree_err bytes (Gml f) Words h k = absurd k
+tree_err bytes (Gml f) TooManyBytes h k = absurd k
+tree_err bytes (Gml f) (Shape g) h k = absurd k
+tree_err bytes (Gml f) (UnknownVertex n) h k = absurd k
+tree_err bytes Words s h k = absurd h
+tree_err bytes TooManyBytes s h k = absurd h
+tree_err bytes (Shape f) s h k = absurd h
+tree_err bytes (UnknownVertex n) s h k = absurd h
+
+tree_one : (bytes : List ℕ) → IsOne (IsTree bytes)
+tree_one bytes (Ok t) (Ok u) h k = ok t u (one_tree bytes t u h k)
+tree_one bytes (Ok t) (Err s) h k = absurd (tree_apart bytes t s h k)
+tree_one bytes (Err r) (Ok u) h k = absurd (tree_apart bytes u r k h)
+tree_one bytes (Err r) (Err s) h k = err r s (tree_err bytes r s h k)
+
+-- ---- the graph
+graph_apart : (tree : Entries) (g : InputGraph) (r : Refusal) → IsGraph tree (Ok g) → IsGraph tree (Err r) → ⊥
+graph_apart tree g Words h k = k
+graph_apart tree g TooManyBytes h k = k
+graph_apart tree g (Gml f) h k = k
+graph_apart tree g (Shape f) h k = let e : None ≡ Some f = sym h.0 ∙ k in cc
+graph_apart tree g (UnknownVertex n) h k = k
+
+graph_err : (tree : Entries) (r s : Refusal) → IsGraph tree (Err r) → IsGraph tree (Err s) → r ≡ s
+graph_err tree (Shape f) (Shape g) h k = let e : Some f ≡ Some g = sym h ∙ k in ap (λ z. Shape z) (let same : f ≡ g = cc in same)
+graph_err tree (Shape f) Words h k = absurd k
+graph_err tree (Shape f) TooManyBytes h k = absurd k
+graph_err tree (Shape f) (Gml g) h k = absurd k
+graph_err tree (Shape f) (UnknownVertex n) h k = absurd k
+graph_err tree Words s h k = absurd h
+graph_err tree TooManyBytes s h k = absurd h
+graph_err tree (Gml f) s h k = absurd h
+graph_err tree (UnknownVertex n) s h k = absurd h
+
+graph_one : (tree : Entries) → IsOne (IsGraph tree)
+graph_one tree (Ok g) (Ok g') h k = let e : Some g ≡ Some g' = sym h.1 ∙ k.1 in ok g g' (let same : g ≡ g' = cc in same)
+graph_one tree (Ok g) (Err s) h k = absurd (graph_apart tree g s h k)
+graph_one tree (Err r) (Ok g') h k = absurd (graph_apart tree g' r k h)
+graph_one tree (Err r) (Err s) h k = err r s (graph_err tree r s h k)
+
+-- ---- the query
+same_line : (g : InputGraph) (p : ℤ × ℤ) (l m : List ℕ) → IsLine g p l → IsLine g p m → l ≡ m
+same_line g p l m h k = h.text ∙ ap (line_of_names p.0 p.1) (same_bool h.answer k.answer (λ y. k.reaches.1 (h.reaches.0 y)) (λ y. h.reaches.1 (k.reaches.0 y))) ∙ sym k.text
+  where
+    same_bool : (a b : Bool) → (a ≡ true → b ≡ true) → (b ≡ true → a ≡ true) → a ≡ b
+    same_bool true true f g = refl
+    same_bool true false f g = sym (f refl)
+    same_bool false true f g = g refl
+    same_bool false false f g = refl
+
+same_lines : (g : InputGraph) (ps : List (ℤ × ℤ)) (a b : List ℕ) → AreLines g ps a → AreLines g ps b → a ≡ b
+same_lines g ps a b (no_line e) (no_line f) = e ∙ sym f
+same_lines g ps a b (one_line {p = p} {pairs = more} l rest h r e) (one_line l' rest' h' r' e') =
+    e ∙ ap (λ z. z ++ rest) (same_line g p l l' h h') ∙ ap (λ z. l' ++ z) (same_lines g more rest rest' r r') ∙ sym e'
+
+known_unknown : (g : InputGraph) (ns : List ℤ) (n : ℤ) → AreKnown g ns → IsFirstUnknown g ns n → ⊥
+known_unknown g [] n h k = k
+known_unknown g (m ∷ ns) n h k = elim k [ inl a ↦ a.0 h.0.0 h.0.1 | inr b ↦ known_unknown g ns n h.1 b.1 ]
+
+same_unknown : (g : InputGraph) (ns : List ℤ) (n m : ℤ) → IsFirstUnknown g ns n → IsFirstUnknown g ns m → n ≡ m
+same_unknown g [] n m h k = absurd h
+same_unknown g (x ∷ ns) n m h k = elim h [
+  | inl a ↦ elim k [ inl b ↦ a.1 ∙ sym b.1 | inr b ↦ absurd (a.0 b.0.0 b.0.1) ]
+  | inr a ↦ elim k [ inl b ↦ absurd (b.0 a.0.0 a.0.1) | inr b ↦ same_unknown g ns n m a.1 b.1 ]
+]
+
+query_err : (ps : List (ℤ × ℤ)) (g : InputGraph) (r : Refusal) → Answers (Query ps) g (Err r) → (n : ℤ) × (r ≡ UnknownVertex n) × IsFirstUnknown g (names_of ps) n
+query_err ps g Words h = absurd h
+query_err ps g TooManyBytes h = absurd h
+query_err ps g (Gml f) h = absurd h
+query_err ps g (Shape f) h = absurd h
+query_err ps g (UnknownVertex n) h = (n, refl, h)
+
+answers_one : (c : Command) (g : InputGraph) → IsOne (Answers c g)
+answers_one (Query ps) g (Ok a) (Ok b) h k = ok a b (same_lines g ps a b h.1 k.1)
+answers_one (Query ps) g (Ok a) (Err s) h k = let e = query_err ps g s k in absurd (known_unknown g (names_of ps) e.0 h.0 e.2)
+answers_one (Query ps) g (Err r) (Ok b) h k = let e = query_err ps g r h in absurd (known_unknown g (names_of ps) e.0 k.0 e.2)
+answers_one (Query ps) g (Err r) (Err s) h k =
+    let e = query_err ps g r h in
+    let f = query_err ps g s k in
+    err r s (e.1 ∙ ap (λ z. UnknownVertex z) (same_unknown g (names_of ps) e.0 f.0 e.2 f.2) ∙ sym f.1)
+
+pub one_answer : HaveOneAnswer
+one_answer words bytes = one_then (Asks words) (λ command. AnswersFile command bytes) (asks_one words)
+    (λ command. one_then (IsFew bytes) _ (few_one bytes) (λ u. one_then (IsTree bytes) _ (tree_one bytes) (λ tree. one_then (IsGraph tree) (Answers command) (graph_one tree) (answers_one command))))

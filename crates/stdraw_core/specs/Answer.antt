@@ -1,0 +1,69 @@
+-- The program's one answer to words and the bytes of a file, found in stages.
+--   Asks, IsFew, IsTree, IsGraph, Answers    the stages: each says what it finds, and when it refuses
+--   IsAnswer words bytes answer              an output, or the first refusal
+-- Later commands and tests come as further stages or as cases of the last one.
+use Rattle.std.specs.Prelude.{◌≡◌, ℕ, ◌<◌, ◌≤◌, List, length, Some, None, Result, Ok, Err}
+use Rattle.gml_core.specs.Trees.{Entries}
+use Rattle.gml_core.specs.Reading.{IsText, IsFirstFault}
+use Rattle.st_input.specs.InputGraph.{InputGraph}
+use Rattle.st_input.specs.Embedding.{embedded_graph}
+use Rattle.st_input.specs.FirstFault.{shape_fault}
+use Rattle.stdraw_core.specs.declared.words.Command.{Command}
+use Rattle.stdraw_core.specs.declared.words.Command.TheVariants.{Query}
+use Rattle.stdraw_core.specs.declared.stop.Refusal.{Refusal}
+use Rattle.stdraw_core.specs.declared.stop.Refusal.TheVariants.{Words, TooManyBytes, Gml, Shape, UnknownVertex}
+use Rattle.stdraw_core.specs.Stages.{Then, IsOne}
+use Rattle.stdraw_core.specs.Words.{IsCommand}
+use Rattle.stdraw_core.specs.Query.{AreKnown, IsFirstUnknown, AreLines, names_of}
+
+-- the greatest numbers of bytes of a file, of vertices and of edges
+abbrev pub byte_limit : ℕ
+byte_limit = 16777216
+
+abbrev pub vertex_limit : ℕ
+vertex_limit = 20000
+
+abbrev pub edge_limit : ℕ
+edge_limit = 60000
+
+-- the command that the words ask for; words that are no form of a command are refused
+abbrev pub Asks : List (List ℕ) → Result Command Refusal → Type 0
+Asks words (Ok command) = IsCommand words command
+Asks words (Err Words) = (command : Command) → IsCommand words command → ⊥
+Asks words (Err _) = ⊥
+
+-- more bytes than the limit are refused
+abbrev pub IsFew : List ℕ → Result (Unit {0}) Refusal → Type 0
+IsFew bytes (Ok _) = length bytes ≤ byte_limit
+IsFew bytes (Err TooManyBytes) = byte_limit < length bytes
+IsFew bytes (Err _) = ⊥
+
+-- the tree whose text the bytes are; bytes that are no text are refused with their first fault
+abbrev pub IsTree : List ℕ → Result Entries Refusal → Type 0
+IsTree bytes (Ok tree) = IsText bytes tree
+IsTree bytes (Err (Gml fault)) = IsFirstFault bytes fault
+IsTree bytes (Err _) = ⊥
+
+-- the graph of the tree; a tree with a fault, the limits of vertices and edges last, is refused with the first
+abbrev pub IsGraph : Entries → Result InputGraph Refusal → Type 0
+IsGraph tree (Ok g) = (shape_fault tree vertex_limit edge_limit ≡ None) × (embedded_graph tree ≡ Some g)
+IsGraph tree (Err (Shape fault)) = shape_fault tree vertex_limit edge_limit ≡ Some fault
+IsGraph tree (Err _) = ⊥
+
+-- what the command answers about the graph; of a query the first name that no vertex has is refused
+abbrev pub Answers : Command → InputGraph → Result (List ℕ) Refusal → Type 0
+Answers (Query pairs) g (Ok out) = AreKnown g (names_of pairs) × AreLines g pairs out
+Answers (Query pairs) g (Err (UnknownVertex name)) = IsFirstUnknown g (names_of pairs) name
+Answers (Query pairs) g (Err _) = ⊥
+
+-- what the command answers to a file
+abbrev pub AnswersFile : Command → List ℕ → Result (List ℕ) Refusal → Type 0
+AnswersFile command bytes = Then (IsFew bytes) (λ _. Then (IsTree bytes) (λ tree. Then (IsGraph tree) (Answers command)))
+
+-- the one answer to words and bytes: an output, or the first refusal
+abbrev pub IsAnswer : List (List ℕ) → List ℕ → Result (List ℕ) Refusal → Type 0
+IsAnswer words bytes = Then (Asks words) (λ command. AnswersFile command bytes)
+
+-- two answers to the same words and bytes are one and the same
+abbrev pub HaveOneAnswer : Type 0
+HaveOneAnswer = (words : List (List ℕ)) (bytes : List ℕ) → IsOne (IsAnswer words bytes)

@@ -1,0 +1,9 @@
+pub mod Links
+pub mod Search
+pub mod Stages
+pub mod Words
+pub mod Query
+pub mod Answer
+pub mod Lines
+pub mod Stops
+pub mod Run

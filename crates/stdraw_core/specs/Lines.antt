@@ -1,0 +1,98 @@
+-- How a run ends: the status of each refusal, the numbers of the statuses, and the lines that say why.
+--   status_of, code_of    the status of a refusal; its number
+--   line_of               the line of a refusal; stop_line that of any end but Done
+--   numbered              a text, a number in decimal, a text
+use Rattle.std.specs.Prelude.{ℕ, ℤ, pos, List, [], codes, ◌++◌}
+use Rattle.std.specs.Fmt.{signed_decimal}
+use Rattle.gml_core.specs.declared.fault.GmlFault.{GmlFault}
+use Rattle.gml_core.specs.declared.fault.GmlFault.TheVariants as gml
+use Rattle.st_input.specs.declared.fault.ShapeFault.{ShapeFault}
+use Rattle.st_input.specs.declared.fault.ShapeFault.TheVariants as shape
+use Rattle.stdraw_core.specs.declared.stop.Status.{Status}
+use Rattle.stdraw_core.specs.declared.stop.Status.TheVariants as status
+use Rattle.stdraw_core.specs.declared.stop.Refusal.{Refusal}
+use Rattle.stdraw_core.specs.declared.stop.Refusal.TheVariants.{Words, TooManyBytes, Gml, Shape, UnknownVertex}
+use Rattle.stdraw_core.specs.declared.stop.Stop.{Stop}
+use Rattle.stdraw_core.specs.declared.stop.Stop.TheVariants as stop
+
+-- the number that the program ends with
+abbrev pub code_of : Status → ℕ
+code_of status.Done = 0
+code_of status.NotSt = 1
+code_of status.Words = 2
+code_of status.Gml = 3
+code_of status.Limit = 4
+code_of status.ReadFault = 5
+code_of status.WriteFault = 6
+code_of status.NoMemory = 7
+code_of status.Path = 8
+code_of status.UnknownVertex = 9
+code_of status.NotClean = 10
+code_of status.Eps = 11
+code_of status.Edit = 12
+code_of status.NoOrientation = 13
+
+-- a tree with a fault has the status of bad GML, but for the limits
+abbrev pub shape_status : ShapeFault → Status
+shape_status (shape.TooManyVertices n) = status.Limit
+shape_status (shape.TooManyEdges m) = status.Limit
+shape_status _ = status.Gml
+
+abbrev pub status_of : Refusal → Status
+status_of Words = status.Words
+status_of TooManyBytes = status.Limit
+status_of (Gml fault) = status.Gml
+status_of (Shape fault) = shape_status fault
+status_of (UnknownVertex name) = status.UnknownVertex
+
+abbrev pub stop_status : Stop → Status
+stop_status (stop.Refused refusal) = status_of refusal
+stop_status stop.ReadFault = status.ReadFault
+stop_status stop.WriteFault = status.WriteFault
+stop_status stop.NoMemory = status.NoMemory
+
+-- a text, a number in decimal, a text
+abbrev pub numbered : List ℕ → ℤ → List ℕ → List ℕ
+numbered head n tail = head ++ (signed_decimal n ++ tail)
+
+abbrev pub placed : List ℕ → ℕ → List ℕ
+placed head at = numbered head (pos at) (codes "\n")
+
+abbrev pub gml_line : GmlFault → List ℕ
+gml_line (gml.BadByte at) = placed (codes "gml: bad byte at ") at
+gml_line (gml.OpenString at) = placed (codes "gml: open string at ") at
+gml_line (gml.BadNumber at) = placed (codes "gml: bad number at ") at
+gml_line (gml.BigNumber at) = placed (codes "gml: big number at ") at
+gml_line (gml.NoValue at) = placed (codes "gml: key without value at ") at
+gml_line (gml.Unclosed at) = placed (codes "gml: unclosed list at ") at
+gml_line (gml.Stray at) = placed (codes "gml: stray token at ") at
+gml_line (gml.TooDeep at) = placed (codes "gml: list too deep at ") at
+gml_line gml.NoMemory = codes "no memory\n"
+
+abbrev pub shape_line : ShapeFault → List ℕ
+shape_line shape.NoGraph = codes "gml: no graph\n"
+shape_line (shape.SecondGraph at) = placed (codes "gml: second graph at ") at
+shape_line (shape.BadKind at) = placed (codes "gml: wrong kind of value at ") at
+shape_line (shape.NoId at) = placed (codes "gml: node without id at ") at
+shape_line (shape.SameId id) = numbered (codes "gml: node id ") id (codes " twice\n")
+shape_line (shape.NoEnd edge) = numbered (codes "gml: edge ") (pos edge) (codes " lacks an end\n")
+shape_line (shape.UnknownEnd edge id) = numbered (codes "gml: edge ") (pos edge) (codes " ends at unknown node ") ++ numbered [] id (codes "\n")
+shape_line (shape.SameEdgeId id) = numbered (codes "gml: edge id ") id (codes " twice\n")
+shape_line (shape.UnknownEdge at) = placed (codes "gml: unknown edge at ") at
+shape_line (shape.BadOuter at) = placed (codes "gml: bad outer at ") at
+shape_line (shape.TooManyVertices n) = numbered (codes "limit: ") (pos n) (codes " vertices, at most 20000\n")
+shape_line (shape.TooManyEdges m) = numbered (codes "limit: ") (pos m) (codes " edges, at most 60000\n")
+shape_line shape.NoMemory = codes "no memory\n"
+
+abbrev pub line_of : Refusal → List ℕ
+line_of Words = codes "words: not a command of stdraw\n"
+line_of TooManyBytes = codes "limit: more than 16777216 bytes\n"
+line_of (Gml fault) = gml_line fault
+line_of (Shape fault) = shape_line fault
+line_of (UnknownVertex name) = numbered (codes "unknown vertex: ") name (codes "\n")
+
+abbrev pub stop_line : Stop → List ℕ
+stop_line (stop.Refused refusal) = line_of refusal
+stop_line stop.ReadFault = codes "read fault\n"
+stop_line stop.WriteFault = codes "write fault\n"
+stop_line stop.NoMemory = codes "no memory\n"

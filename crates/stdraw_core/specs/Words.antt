@@ -1,0 +1,30 @@
+-- What words ask for.
+--   IsName word n        the word writes the vertex name n
+--   AreNames words ps    the words write the names of the pairs, one after the other
+--   IsCommand words c    the words are a form of the command
+use Rattle.std.specs.Prelude.{◌≡◌, ℕ, ◌+◌, ◌*◌, ◌<◌, ◌≤◌, ℤ, pos, FitsSigned, List, [], ◌∷◌, length, slice_index_or, codes}
+use Rattle.std.specs.Int.{w64}
+use Rattle.std.specs.Str.Parse.{IsNumeral, signed_digits_value, without_leading_sign}
+use Rattle.stdraw_core.specs.declared.words.Command.{Command}
+use Rattle.stdraw_core.specs.declared.words.Command.TheVariants.{Query}
+
+-- an optional sign and at least one digit, of a number in signed 64 bits
+pub record IsName (word : List ℕ) (n : ℤ) : Type 0 where
+  pub digits : IsNumeral 10 (without_leading_sign word)
+  pub value : signed_digits_value 10 word ≡ n
+  pub fits : FitsSigned w64 n
+
+-- the words write the names of the pairs, one after the other
+pub record AreNames (words : List (List ℕ)) (pairs : List (ℤ × ℤ)) : Type 0 where
+  pub size : length words ≡ 2 * length pairs
+  pub first : (i : ℕ) → i < length pairs → IsName (slice_index_or words (2 * i) []) (slice_index_or pairs i (pos 0, pos 0)).0
+  pub second : (i : ℕ) → i < length pairs → IsName (slice_index_or words (2 * i + 1) []) (slice_index_or pairs i (pos 0, pos 0)).1
+
+-- the greatest number of pairs of a query
+abbrev pub most_pairs : ℕ
+most_pairs = 1000
+
+-- the words are a form of the command
+abbrev pub IsCommand : List (List ℕ) → Command → Type 0
+IsCommand [] command = ⊥
+IsCommand (name ∷ words) (Query pairs) = (name ≡ codes "query") × (1 ≤ length pairs) × (length pairs ≤ most_pairs) × AreNames words pairs

@@ -1,0 +1,44 @@
+//! The graph of a file's bytes.
+ghost use Rattle.std.specs.Prelude.{◌<◌, ◌^◌, length, IfOk, Ok};
+ghost use Rattle.gml_core.specs.Views.{view};
+ghost use Rattle.gml_core.specs.Sound.{IsSound};
+ghost use Rattle.st_input.specs.Names.{AreDifferent};
+ghost use Rattle.stdraw_core.specs.Answer.{IsTree, IsGraph};
+ghost use Rattle.stdraw_core.specs.Stops.{StopsAt};
+
+use crate::stop::{Refusal, Stop};
+use gml_core::{GmlFault, Tree, parse};
+use st_input::{GraphSpec, ShapeFault, read_graph};
+use std::alloc::Global;
+
+const MOST_VERTICES: u32 = 20_000;
+
+const MOST_EDGES: u32 = 60_000;
+
+/// The tree of the bytes, or their first fault.
+pub fn tree_of(alloc: Global, bytes: &[u8]) -> Result<Tree, Stop>
+    requires { length bytes.now < 2 ^ 32 }
+    ensures ok { IfOk result (λ tree. IsTree bytes.now (Ok (view tree))) }
+    ensures err { StopsAt (IsTree bytes.now) result }
+    ensures sound { IfOk result (λ tree. IsSound (view tree)) }
+{
+    match parse(alloc, bytes) {
+        Ok(tree) => Ok(tree),
+        Err(GmlFault::NoMemory) => Err(Stop::NoMemory),
+        Err(fault) => Err(Stop::Refused(Refusal::Gml(fault))),
+    }
+}
+
+/// The graph of the tree within the limits, or the tree's first fault.
+pub fn graph_of(alloc: Global, tree: &Tree) -> Result<GraphSpec, Stop>
+    requires { IsSound (view tree.now) }
+    ensures ok { IfOk result (λ g. IsGraph (view tree.now) (Ok g)) }
+    ensures different { IfOk result (λ g. AreDifferent g.vertex_names) }
+    ensures err { StopsAt (IsGraph (view tree.now)) result }
+{
+    match read_graph(alloc, tree, MOST_VERTICES, MOST_EDGES) {
+        Ok(graph) => Ok(graph),
+        Err(ShapeFault::NoMemory) => Err(Stop::NoMemory),
+        Err(fault) => Err(Stop::Refused(Refusal::Shape(fault))),
+    }
+}

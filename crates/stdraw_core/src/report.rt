@@ -1,0 +1,194 @@
+//! The diagnostic line and the output, written to their sinks in pieces and without memory.
+//!
+//! Each writer here appends its whole text, or a front of it where the sink counted a fault.
+ghost use Rattle.std.specs.Prelude.{◌≡◌, ◌++◌, OnOk, OnErr, IsTrue};
+ghost use Rattle.st_port.specs.Faults.{Rose, GoesOn};
+ghost use Rattle.st_port.specs.Streams.{Gains, GainsFront};
+ghost use Rattle.stdraw_core.specs.Lines.{gml_line, shape_line, line_of, stop_line, stop_status};
+ghost use Rattle.stdraw_core.specs.Run.{Tells};
+
+use crate::stop::{Refusal, Status, Stop};
+use gml_core::GmlFault;
+use itoa::{Buffer, Integer};
+use st_input::ShapeFault;
+use st_port::{Failed, Sink, write_all};
+
+// Writes one text and then another.
+fn write_two<K: Sink>(sink: &mut K, first: &[u8], second: &[u8]) -> Result<(), Failed>
+    ensures whole { OnOk result (Gains (K.state sink.old) (K.state sink.new) (first.now ++ second.now)) }
+    ensures prefix { OnErr result (GainsFront (K.state sink.old) (K.state sink.new) (first.now ++ second.now)) }
+    ensures count { GoesOn (K.state sink.old).faults (K.state sink.new).faults }
+    ensures cause { OnErr result (Rose (K.state sink.old).faults (K.state sink.new).faults) }
+{
+    write_all(sink, first)?;
+    write_all(sink, second)
+}
+
+// Writes a text, a number in decimal and a text.
+fn write_number<K: Sink, I: Integer>(
+    sink: &mut K,
+    head: &[u8],
+    n: I,
+    tail: &[u8],
+) -> Result<(), Failed>
+    ensures whole { OnOk result (Gains (K.state sink.old) (K.state sink.new) (head.now ++ (I.text n ++ tail.now))) }
+    ensures prefix { OnErr result (GainsFront (K.state sink.old) (K.state sink.new) (head.now ++ (I.text n ++ tail.now))) }
+    ensures count { GoesOn (K.state sink.old).faults (K.state sink.new).faults }
+    ensures cause { OnErr result (Rose (K.state sink.old).faults (K.state sink.new).faults) }
+{
+    let mut buffer = Buffer::new();
+    let digits = buffer.format(n);
+    write_all(sink, head)?;
+    write_two(sink, digits.as_bytes(), tail)
+}
+
+// Writes a text, a number, a text, a number and a text.
+fn write_numbers<K: Sink, I: Integer, J: Integer>(
+    sink: &mut K,
+    head: &[u8],
+    n: I,
+    middle: &[u8],
+    m: J,
+    tail: &[u8],
+) -> Result<(), Failed>
+    ensures whole { OnOk result (Gains (K.state sink.old) (K.state sink.new) ((head.now ++ (I.text n ++ middle.now)) ++ (J.text m ++ tail.now))) }
+    ensures prefix { OnErr result (GainsFront (K.state sink.old) (K.state sink.new) ((head.now ++ (I.text n ++ middle.now)) ++ (J.text m ++ tail.now))) }
+    ensures count { GoesOn (K.state sink.old).faults (K.state sink.new).faults }
+    ensures cause { OnErr result (Rose (K.state sink.old).faults (K.state sink.new).faults) }
+{
+    write_number(sink, head, n, middle)?;
+    write_number(sink, b"", m, tail)
+}
+
+// Writes the line of a fault of a text.
+fn write_gml<D: Sink>(diag: &mut D, fault: &GmlFault) -> Result<(), Failed>
+    ensures whole { OnOk result (Gains (D.state diag.old) (D.state diag.new) (gml_line fault.now)) }
+    ensures prefix { OnErr result (GainsFront (D.state diag.old) (D.state diag.new) (gml_line fault.now)) }
+    ensures count { GoesOn (D.state diag.old).faults (D.state diag.new).faults }
+    ensures cause { OnErr result (Rose (D.state diag.old).faults (D.state diag.new).faults) }
+{
+    match fault {
+        GmlFault::BadByte { at } => write_number(diag, b"gml: bad byte at ", *at, b"\n"),
+        GmlFault::OpenString { at } => write_number(diag, b"gml: open string at ", *at, b"\n"),
+        GmlFault::BadNumber { at } => write_number(diag, b"gml: bad number at ", *at, b"\n"),
+        GmlFault::BigNumber { at } => write_number(diag, b"gml: big number at ", *at, b"\n"),
+        GmlFault::NoValue { at } => write_number(diag, b"gml: key without value at ", *at, b"\n"),
+        GmlFault::Unclosed { at } => write_number(diag, b"gml: unclosed list at ", *at, b"\n"),
+        GmlFault::Stray { at } => write_number(diag, b"gml: stray token at ", *at, b"\n"),
+        GmlFault::TooDeep { at } => write_number(diag, b"gml: list too deep at ", *at, b"\n"),
+        GmlFault::NoMemory => write_all(diag, b"no memory\n"),
+    }
+}
+
+// Writes the line of a fault of a tree.
+fn write_shape<D: Sink>(diag: &mut D, fault: &ShapeFault) -> Result<(), Failed>
+    ensures whole { OnOk result (Gains (D.state diag.old) (D.state diag.new) (shape_line fault.now)) }
+    ensures prefix { OnErr result (GainsFront (D.state diag.old) (D.state diag.new) (shape_line fault.now)) }
+    ensures count { GoesOn (D.state diag.old).faults (D.state diag.new).faults }
+    ensures cause { OnErr result (Rose (D.state diag.old).faults (D.state diag.new).faults) }
+{
+    match fault {
+        ShapeFault::NoGraph => write_all(diag, b"gml: no graph\n"),
+        ShapeFault::SecondGraph { at } => write_number(diag, b"gml: second graph at ", *at, b"\n"),
+        ShapeFault::BadKind { at } => write_number(
+            diag,
+            b"gml: wrong kind of value at ",
+            *at,
+            b"\n",
+        ),
+        ShapeFault::NoId { at } => write_number(diag, b"gml: node without id at ", *at, b"\n"),
+        ShapeFault::SameId { id } => write_number(diag, b"gml: node id ", *id, b" twice\n"),
+        ShapeFault::NoEnd { edge } => write_number(diag, b"gml: edge ", *edge, b" lacks an end\n"),
+        ShapeFault::UnknownEnd { edge, id } => {
+            write_numbers(
+                diag,
+                b"gml: edge ",
+                *edge,
+                b" ends at unknown node ",
+                *id,
+                b"\n",
+            )
+        }
+        ShapeFault::SameEdgeId { id } => write_number(diag, b"gml: edge id ", *id, b" twice\n"),
+        ShapeFault::UnknownEdge { at } => write_number(diag, b"gml: unknown edge at ", *at, b"\n"),
+        ShapeFault::BadOuter { at } => write_number(diag, b"gml: bad outer at ", *at, b"\n"),
+        ShapeFault::TooManyVertices { n } => write_number(
+            diag,
+            b"limit: ",
+            *n,
+            b" vertices, at most 20000\n",
+        ),
+        ShapeFault::TooManyEdges { m } => write_number(
+            diag,
+            b"limit: ",
+            *m,
+            b" edges, at most 60000\n",
+        ),
+        ShapeFault::NoMemory => write_all(diag, b"no memory\n"),
+    }
+}
+
+// Writes the line of a refusal.
+fn write_refusal<D: Sink>(diag: &mut D, refusal: &Refusal) -> Result<(), Failed>
+    ensures whole { OnOk result (Gains (D.state diag.old) (D.state diag.new) (line_of refusal.now)) }
+    ensures prefix { OnErr result (GainsFront (D.state diag.old) (D.state diag.new) (line_of refusal.now)) }
+    ensures count { GoesOn (D.state diag.old).faults (D.state diag.new).faults }
+    ensures cause { OnErr result (Rose (D.state diag.old).faults (D.state diag.new).faults) }
+{
+    match refusal {
+        Refusal::Words => write_all(diag, b"words: not a command of stdraw\n"),
+        Refusal::TooManyBytes => write_all(diag, b"limit: more than 16777216 bytes\n"),
+        Refusal::Gml(fault) => write_gml(diag, fault),
+        Refusal::Shape(fault) => write_shape(diag, fault),
+        Refusal::UnknownVertex(name) => write_number(diag, b"unknown vertex: ", *name, b"\n"),
+    }
+}
+
+// Writes the line that says why a run stops.
+fn write_stop<D: Sink>(diag: &mut D, stop: &Stop) -> Result<(), Failed>
+    ensures whole { OnOk result (Gains (D.state diag.old) (D.state diag.new) (stop_line stop.now)) }
+    ensures prefix { OnErr result (GainsFront (D.state diag.old) (D.state diag.new) (stop_line stop.now)) }
+    ensures count { GoesOn (D.state diag.old).faults (D.state diag.new).faults }
+    ensures cause { OnErr result (Rose (D.state diag.old).faults (D.state diag.new).faults) }
+{
+    match stop {
+        Stop::Refused(refusal) => write_refusal(diag, refusal),
+        Stop::ReadFault => write_all(diag, b"read fault\n"),
+        Stop::WriteFault => write_all(diag, b"write fault\n"),
+        Stop::NoMemory => write_all(diag, b"no memory\n"),
+    }
+}
+
+/// Writes the whole text and flushes.
+pub fn emit<K: Sink>(sink: &mut K, text: &[u8]) -> Result<(), Failed>
+    ensures whole { OnOk result (Gains (K.state sink.old) (K.state sink.new) text.now) }
+    ensures flushed { OnOk result (IsTrue (K.state sink.new).is_flushed) }
+    ensures prefix { OnErr result (GainsFront (K.state sink.old) (K.state sink.new) text.now) }
+    ensures count { GoesOn (K.state sink.old).faults (K.state sink.new).faults }
+    ensures cause { OnErr result (Rose (K.state sink.old).faults (K.state sink.new).faults) }
+{
+    write_all(sink, text)?;
+    sink.flush()
+}
+
+// Writes the line that says why a run stops, and flushes.
+fn tell<D: Sink>(diag: &mut D, stop: &Stop) -> Result<(), Failed>
+    ensures whole { OnOk result (Gains (D.state diag.old) (D.state diag.new) (stop_line stop.now)) }
+    ensures flushed { OnOk result (IsTrue (D.state diag.new).is_flushed) }
+    ensures prefix { OnErr result (GainsFront (D.state diag.old) (D.state diag.new) (stop_line stop.now)) }
+    ensures count { GoesOn (D.state diag.old).faults (D.state diag.new).faults }
+    ensures cause { OnErr result (Rose (D.state diag.old).faults (D.state diag.new).faults) }
+{
+    write_stop(diag, stop)?;
+    diag.flush()
+}
+
+/// Says why the run stops, and answers the status. A fault of `diag` changes nothing.
+pub fn report<D: Sink>(diag: &mut D, stop: &Stop) -> Status
+    ensures status { result ≡ stop_status stop.now }
+    ensures line { Tells (D.state diag.old) (D.state diag.new) (stop_line stop.now) }
+    ensures count { GoesOn (D.state diag.old).faults (D.state diag.new).faults }
+{
+    let _ = tell(diag, stop);
+    stop.status()
+}

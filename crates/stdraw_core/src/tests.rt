@@ -1,0 +1,278 @@
+//! Whole runs over memory: outputs, lines and statuses, byte by byte.
+use crate::{Status, run};
+use itoa::Buffer;
+use st_ids::Text;
+use st_port::{MemSink, MemSource, StdSink, StdSource};
+use std::alloc::{AllocError, Global};
+use std::process::Abort;
+use std::test::Fail;
+
+const DIAMOND: &[u8] =
+    b"graph [ node [ id 1 ] node [ id 2 ] node [ id 3 ] node [ id 4 ] edge [ source 1 target 2 ] edge [ source 1 target 3 ] edge [ source 2 target 4 ] edge [ source 3 target 4 ] ]\n";
+
+const CHAIN: &[u8] =
+    b"graph [ node [ id 1 ] node [ id 2 ] node [ id 3 ] edge [ source 1 target 2 ] edge [ source 2 target 3 ] ]\n";
+
+const EDGE: &[u8] = b"graph [ node [ id 1 ] node [ id 2 ] edge [ source 1 target 2 ] ]\n";
+
+// After the files of yEd.
+const NESTED: &[u8] =
+    b"Creator \"yFiles\"\nVersion \"2.17\"\ngraph\n[\n  hierarchic 1\n  label \"\"\n  directed 1\n  node\n  [\n    id 0\n    label \"A\"\n    graphics\n    [\n      x 12.5\n      y 30.0\n      type \"rectangle\"\n      fill \"#FFCC00\"\n    ]\n  ]\n  node\n  [\n    id 1\n    label \"B (1)\"\n  ]\n  edge\n  [\n    source 0\n    target 1\n    graphics\n    [\n      fill \"#000000\"\n      targetArrow \"standard\"\n    ]\n  ]\n]\n";
+
+/// What a run on a file has to give.
+#[derive(Clone, Copy)]
+struct Row {
+    words: &'static str,
+    file: &'static [u8],
+    status: Status,
+    out: &'static [u8],
+    line: &'static [u8],
+}
+
+fn done(words: &'static str, file: &'static [u8], out: &'static [u8]) -> Row {
+    Row {
+        words,
+        file,
+        status: Status::Done,
+        out,
+        line: b"",
+    }
+}
+
+fn refused(words: &'static str, file: &'static [u8], status: Status, line: &'static [u8]) -> Row {
+    Row {
+        words,
+        file,
+        status,
+        out: b"",
+        line,
+    }
+}
+
+fn gml(file: &'static [u8], line: &'static [u8]) -> Row {
+    refused("query 1 1", file, Status::Gml, line)
+}
+
+// The words of a line.
+fn words_of(alloc: Global, line: &str) -> Result<Vec<String>, AllocError> {
+    let mut words = Vec::new(alloc);
+    for word in line.split(' ') {
+        words.push(String::from_str(alloc, word)?)?;
+    }
+    Ok(words)
+}
+
+fn check(rt: &impl Abort, alloc: Global, row: &Row) -> Result<(), Fail> {
+    let words = words_of(alloc, row.words)?;
+    let mut src = MemSource::new(alloc, row.file, 0, &[])?;
+    let mut out = MemSink::new(alloc, 200, 0, &[])?;
+    let mut diag = MemSink::new(alloc, 200, 0, &[])?;
+    let status = run(alloc, &words, &mut src, &mut out, &mut diag);
+    assert_eq!(rt; status, row.status, "{}", row.words);
+    assert_eq!(rt; out.taken(), row.out, "{}", row.words);
+    assert_eq!(rt; diag.taken(), row.line, "{}", row.words);
+    Ok(())
+}
+
+#[test]
+fn says_which_vertex_reaches_which(rt: HostRuntime) -> Result<(), Fail> {
+    let rows = [
+        done("query 2 3 1 4", DIAMOND, b"2 3 no\n1 4 yes\n"),
+        done("query 3 1", CHAIN, b"3 1 no\n"),
+        done("query +2 2", DIAMOND, b"2 2 yes\n"),
+        done("query 0 1", NESTED, b"0 1 yes\n"),
+        done(
+            "query 1 2",
+            b"\xEF\xBB\xBFgraph [ node [ id 1 ] node [ id 2 ] edge [ source 1 target 2 ] ]\n# flow",
+            b"1 2 yes\n",
+        ),
+        done(
+            "query 2 1",
+            b"graph[directed 0 weight 1e5 node[id 2]node[id 1 label 7]edge[id 4 source 2 target 1]]",
+            b"2 1 yes\n",
+        ),
+        done(
+            "query -1 1",
+            b"graph [ node [ id -1 ] node [ id 1 ] edge [ source 1 target -1 ] ]",
+            b"-1 1 no\n",
+        ),
+        done(
+            "query 1 2 2 1 1 1",
+            b"graph [ node [ id 1 ] node [ id 2 ] edge [ source 1 target 2 ] edge [ source 2 target 1 ] ]",
+            b"1 2 yes\n2 1 yes\n1 1 yes\n",
+        ),
+    ];
+    for row in &rows {
+        check(&rt, rt.alloc(), row)?;
+    }
+    Ok(())
+}
+
+#[test]
+fn names_the_first_fault_of_a_file(rt: HostRuntime) -> Result<(), Fail> {
+    let rows = [
+        gml(b"", b"gml: no graph\n"),
+        gml(
+            b"graph [ node [ id 1 label \"A",
+            b"gml: open string at 26\n",
+        ),
+        gml(b"graph [ node [ id 1 ]", b"gml: unclosed list at 6\n"),
+        gml(b"graph", b"gml: key without value at 0\n"),
+        gml(b"graph [ ] ]", b"gml: stray token at 10\n"),
+        gml(
+            b"graph [ x 9223372036854775808 ]",
+            b"gml: big number at 10\n",
+        ),
+        gml(b"graph [ x 1e ]", b"gml: bad number at 10\n"),
+        gml(b"graph [ x @ ]", b"gml: bad byte at 10\n"),
+        gml(
+            b"a [ a [ a [ a [ a [ a [ a [ a [ a [ a [ a [ a [ a [ a [ a [ a [ a [ a [ a [ a [ a [ a [ a [ a [ a [ a [ a [ a [ a [ a [ a [ a [ a [ ",
+            b"gml: list too deep at 130\n",
+        ),
+        gml(b"graph [ ] graph [ ]", b"gml: second graph at 10\n"),
+        gml(
+            b"graph [ node [ id 1.5 ] ]",
+            b"gml: wrong kind of value at 15\n",
+        ),
+        gml(b"graph [ node [ ] ]", b"gml: node without id at 8\n"),
+        gml(
+            b"graph [ node [ id 1 ] node [ id 1 ] ]",
+            b"gml: node id 1 twice\n",
+        ),
+        gml(
+            b"graph [ edge [ source 1 ] ]",
+            b"gml: edge 0 lacks an end\n",
+        ),
+        gml(
+            b"graph [ node [ id 1 ] node [ id 2 ] edge [ source 1 target 3 ] ]",
+            b"gml: edge 0 ends at unknown node 3\n",
+        ),
+        gml(
+            b"graph [ node [ id 1 ] node [ id 2 ] edge [ id 7 source 1 target 2 ] edge [ id 7 source 1 target 2 ] ]",
+            b"gml: edge id 7 twice\n",
+        ),
+        gml(
+            b"graph [ node [ id 1 order [ e 5 ] ] ]",
+            b"gml: unknown edge at 28\n",
+        ),
+        gml(b"graph [ outer [ edge 0 ] ]", b"gml: bad outer at 8\n"),
+        gml(b"graph [ x [ y \"", b"gml: open string at 14\n"),
+        gml(b"graph [ x ]", b"gml: key without value at 8\n"),
+    ];
+    for row in &rows {
+        check(&rt, rt.alloc(), row)?;
+    }
+    Ok(())
+}
+
+#[test]
+fn refuses_other_words_and_unknown_vertices(rt: HostRuntime) -> Result<(), Fail> {
+    let line = b"words: not a command of stdraw\n";
+    let rows = [
+        refused(
+            "query 1 9 8 1",
+            DIAMOND,
+            Status::UnknownVertex,
+            b"unknown vertex: 9\n",
+        ),
+        refused("query 1", DIAMOND, Status::Words, line),
+        refused("query", DIAMOND, Status::Words, line),
+        refused("query 1 2 3", DIAMOND, Status::Words, line),
+        refused("query 1 x", DIAMOND, Status::Words, line),
+        refused("query 1 9223372036854775808", DIAMOND, Status::Words, line),
+        refused("draw visibility", DIAMOND, Status::Words, line),
+    ];
+    for row in &rows {
+        check(&rt, rt.alloc(), row)?;
+    }
+    Ok(())
+}
+
+#[test]
+fn tells_faults_of_the_streams(rt: HostRuntime) -> Result<(), Fail> {
+    let alloc = rt.alloc();
+    let words = words_of(alloc, "query 1 2")?;
+    let mut src = MemSource::new(alloc, EDGE, 0, &[1])?;
+    let mut out = MemSink::new(alloc, 100, 0, &[])?;
+    let mut diag = MemSink::new(alloc, 100, 0, &[])?;
+    assert_eq!(rt;
+        run(alloc, &words, &mut src, &mut out, &mut diag),
+        Status::ReadFault
+    );
+    assert_eq!(rt; out.taken(), b"".as_slice());
+    assert_eq!(rt; diag.taken(), b"read fault\n".as_slice());
+    let mut src = MemSource::new(alloc, EDGE, 1, &[])?;
+    let mut out = MemSink::new(alloc, 100, 3, &[2])?;
+    let mut diag = MemSink::new(alloc, 100, 1, &[])?;
+    assert_eq!(rt;
+        run(alloc, &words, &mut src, &mut out, &mut diag),
+        Status::WriteFault
+    );
+    assert_eq!(rt; out.taken(), b"1 2".as_slice());
+    assert_eq!(rt; diag.taken(), b"write fault\n".as_slice());
+    Ok(())
+}
+
+#[test]
+fn runs_over_a_reader_and_a_writer(rt: HostRuntime) -> Result<(), Fail> {
+    let alloc = rt.alloc();
+    let words = words_of(alloc, "query 1 2")?;
+    let mut bytes = Vec::new(alloc);
+    let mut src = StdSource::new(EDGE);
+    let mut out = StdSink::new(&mut bytes);
+    let mut diag = MemSink::new(alloc, 100, 0, &[])?;
+    assert_eq!(rt;
+        run(alloc, &words, &mut src, &mut out, &mut diag),
+        Status::Done
+    );
+    assert_eq!(rt; bytes.as_slice(), b"1 2 yes\n".as_slice());
+    Ok(())
+}
+
+// A file with vertices 1, 2 and on, and so many edges from 1 to 2.
+fn file_of(alloc: Global, vertices: u32, edges: u32) -> Result<Text, Fail> {
+    let mut file = Text::new(alloc);
+    let mut buffer = Buffer::new();
+    file.append(b"graph [ ")?;
+    for v in 0..vertices {
+        file.append(b"node [ id ")?;
+        file.append(buffer.format(u64::from(v) + 1).as_bytes())?;
+        file.append(b" ] ")?;
+    }
+    for _ in 0..edges {
+        file.append(b"edge [ source 1 target 2 ] ")?;
+    }
+    file.append(b"]\n")?;
+    Ok(file)
+}
+
+fn check_limit(rt: &impl Abort, alloc: Global, file: &[u8], line: &[u8]) -> Result<(), Fail> {
+    let words = words_of(alloc, "query 1 1")?;
+    let mut src = MemSource::new(alloc, file, 0, &[])?;
+    let mut out = MemSink::new(alloc, 100, 0, &[])?;
+    let mut diag = MemSink::new(alloc, 100, 0, &[])?;
+    let status = run(alloc, &words, &mut src, &mut out, &mut diag);
+    assert_eq!(rt; status == Status::Limit, !line.is_empty());
+    assert_eq!(rt; diag.taken(), line);
+    Ok(())
+}
+
+#[test]
+fn holds_to_the_limits(rt: HostRuntime) -> Result<(), Fail> {
+    let alloc = rt.alloc();
+    check_limit(&rt, alloc, file_of(alloc, 20_000, 60_000)?.bytes(), b"")?;
+    check_limit(
+        &rt,
+        alloc,
+        file_of(alloc, 20_001, 0)?.bytes(),
+        b"limit: 20001 vertices, at most 20000\n",
+    )?;
+    check_limit(
+        &rt,
+        alloc,
+        file_of(alloc, 2, 60_001)?.bytes(),
+        b"limit: 60001 edges, at most 60000\n",
+    )?;
+    let spaces = vec![in alloc; 32u8; 16_777_217]?;
+    check_limit(&rt, alloc, &spaces, b"limit: more than 16777216 bytes\n")
+}

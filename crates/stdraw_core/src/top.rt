@@ -1,0 +1,101 @@
+//! All that the program does.
+ghost use Rattle.std.specs.Prelude.{◌≡◌, ◌≢◌, ◌≤◌, ◌<◌, length, map, IfOk, IsErrOf};
+ghost use Rattle.std.specs.String.{string_bytes};
+ghost use Rattle.st_port.specs.Faults.{GoesOn};
+ghost use Rattle.st_input.specs.Names.{AreDifferent};
+ghost use Rattle.stdraw_core.specs.Answer.{Answers, AnswersFile, byte_limit};
+ghost use Rattle.stdraw_core.specs.Run.{Decides, EndsBy};
+ghost use Rattle.stdraw_core.specs.Stops.{Gives};
+
+use crate::file::{graph_of, tree_of};
+use crate::query::answer_query;
+use crate::report::{emit, report};
+use crate::stop::{Refusal, Status, Stop};
+use crate::words::{Command, command_of};
+use st_ids::{NoMemory, Text};
+use st_input::GraphSpec;
+use st_port::{Failed, ReadEnd, Sink, Source, read_all};
+use std::alloc::Global;
+
+const MOST_BYTES: usize = 16_777_216;
+
+// What the command answers about the graph.
+fn answer_command(alloc: Global, command: &Command, graph: &GraphSpec) -> Result<Text, Stop>
+    requires { AreDifferent graph.now.vertex_names }
+    ensures { Gives (Answers command.now graph.now) result }
+{
+    match command {
+        Command::Query(pairs) => answer_query(alloc, graph, pairs.items()),
+    }
+}
+
+// What the command answers to the bytes of a file.
+fn answer_file(alloc: Global, command: &Command, bytes: &[u8]) -> Result<Text, Stop>
+    requires { length bytes.now ≤ byte_limit }
+    ensures { Gives (AnswersFile command.now bytes.now) result }
+{
+    let tree = match tree_of(alloc, bytes) {
+        Ok(tree) => tree,
+        Err(stop) => return Err(stop),
+    };
+    let graph = match graph_of(alloc, &tree) {
+        Ok(graph) => graph,
+        Err(stop) => return Err(stop),
+    };
+    answer_command(alloc, command, &graph)
+}
+
+// What is answered to the words and to what the source has left.
+fn decide<S: Source>(alloc: Global, words: &[String], src: &mut S) -> Result<Text, Stop>
+    ensures decides { Decides (map string_bytes words.now) (S.state src.old) (S.state src.new) result }
+    ensures words { IsErrOf result (Stop.Refused Refusal.Words) → src.new ≡ src.old }
+    ensures count { GoesOn (S.state src.old).faults (S.state src.new).faults }
+{
+    let command = match command_of(alloc, words) {
+        Ok(Some(command)) => command,
+        Ok(None) => return Err(Stop::Refused(Refusal::Words)),
+        Err(NoMemory) => return Err(Stop::NoMemory),
+    };
+    let text = match read_all(alloc, src, MOST_BYTES) {
+        Ok(text) => text,
+        Err(ReadEnd::Failed) => return Err(Stop::ReadFault),
+        Err(ReadEnd::TooLong) => return Err(Stop::Refused(Refusal::TooManyBytes)),
+        Err(ReadEnd::NoMemory) => return Err(Stop::NoMemory),
+    };
+    answer_file(alloc, &command, text.bytes())
+}
+
+/// Reads what the words ask for, and writes the answer to `out`, or why there is none to `diag`.
+///
+/// Everything is computed before the first byte is written; the writing takes no memory. The output is flushed with
+/// `Done`, the diagnostic line with every other status. A fault of `diag` changes nothing.
+///
+/// Errors: each status of `Status` but those of commands that are not built yet.
+/// Cost: for `query`, near linear time in the file for each pair; about 200 bytes of memory a pair of the file at most.
+pub fn run<S: Source, K: Sink, D: Sink>(
+    alloc: Global,
+    words: &[String],
+    src: &mut S,
+    out: &mut K,
+    diag: &mut D,
+) -> Status
+    ensures ending { EndsBy (map string_bytes words.now) (S.state src.old) (S.state src.new) (K.state out.old) (K.state out.new) (D.state diag.old) (D.state diag.new) result }
+
+    // What is left as it was.
+    ensures words { result ≡ Status.Words → src.new ≡ src.old }
+    ensures untouched { result ≢ Status.Done → result ≢ Status.WriteFault → out.new ≡ out.old }
+    ensures quiet { result ≡ Status.Done → diag.new ≡ diag.old }
+
+    // Counts of faults never fall.
+    ensures source { GoesOn (S.state src.old).faults (S.state src.new).faults }
+    ensures output { GoesOn (K.state out.old).faults (K.state out.new).faults }
+    ensures diagnostic { GoesOn (D.state diag.old).faults (D.state diag.new).faults }
+{
+    match decide(alloc, words, src) {
+        Ok(text) => match emit(out, text.bytes()) {
+            Ok(()) => Status::Done,
+            Err(Failed) => report(diag, &Stop::WriteFault),
+        },
+        Err(stop) => report(diag, &stop),
+    }
+}
