@@ -1,0 +1,1 @@
+graph [ outer [ edge 0 ] ]

@@ -1,0 +1,1 @@
+graph [ node [ id 1 ] node [ id 2 ] edge [ id 7 source 1 target 2 ] edge [ id 7 source 1 target 2 ] ]

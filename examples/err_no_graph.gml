@@ -1,0 +1,1 @@
+Creator "nobody" Version 1

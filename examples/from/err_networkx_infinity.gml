@@ -1,0 +1,8 @@
+graph [
+  directed 1
+  node [
+    id 0
+    label "a"
+    weight +INF
+  ]
+]

@@ -1,0 +1,1 @@
+graph[node[id 1]node[id 2]edge[source 1target 2width 2.5label"a # b"]]
