@@ -9,3 +9,4 @@ mod PoleLists
 mod StepLemmas
 mod StripGoing
 mod StripSteps
+mod TracingLemmas

@@ -6,3 +6,5 @@ pub mod PolesAnswer
 pub mod Steps
 pub mod StripState
 pub mod Stripping
+pub mod FaceNumbers
+pub mod Tracing

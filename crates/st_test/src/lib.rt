@@ -8,10 +8,14 @@ mod cycle;
 mod digraph_fault;
 mod digraph_tests;
 pub mod laws;
+mod orbits;
 mod stripping;
+mod tracing;
 
 pub use digraph_fault::{DigraphFault, Poles};
 pub use digraph_tests::poles;
+pub use orbits::Faces;
+pub use tracing::faces;
 
 #[cfg(test)]
 mod tests {
