@@ -4,7 +4,7 @@ use Rattle.std.proofs.Math.ListN.{set}
 use Rattle.std.proofs.lemmas.List.{get_or-set_same, get_or-set_other, length-set, length_push, get_or_push, get_or_append_left}
 use Rattle.std.proofs.lemmas.Bool.{cases_eq, cases_lt}
 use Rattle.st_ids.specs.Graph.{tail_of, head_of, AreWithin}
-use Rattle.st_test.specs.Steps.{iterate}
+use Rattle.st_map.specs.Orbits.{iterate}
 use Rattle.st_test.proofs.StripSteps.{short}
 use Rattle.st_test.specs.Cycle.{back_list}
 use Rattle.st_test.specs.BackTables.{is_left, ComesIn, AreBacks, IsClosed, IsTrail, IsTracing, parent}

@@ -4,8 +4,8 @@ use Rattle.std.specs.Prelude.{nat_lt}
 use Rattle.std.proofs.lemmas.Bool.{cases_lt, both_ways, cond-true, cond-false, lt-ltb, le-ltb}
 use Rattle.st_ids.specs.Graph.{tail_of, AreWithin, arcs_of}
 use Rattle.st_test.specs.Poles.{graph_of}
-use Rattle.st_test.specs.Steps.{iterate}
-use Rattle.st_test.proofs.StepLemmas.{iterate-add, steps}
+use Rattle.st_map.specs.Orbits.{iterate}
+use Rattle.st_map.proofs.OrbitLemmas.{iterate-add, steps}
 use Rattle.st_ids.specs.Walks.{Walk, stay, step}
 use Rattle.st_test.specs.Stripping.{IsStripped}
 use Rattle.st_test.proofs.StripSteps.{short}

@@ -1,12 +1,10 @@
 mod BackSteps
-mod CountLemmas
 mod CycleNaming
 mod LongWalks
 mod OneAnswer
 mod OneCycle
 mod PlaceLemmas
 mod PoleLists
-mod StepLemmas
 mod StripGoing
 mod StripSteps
 mod TracingLemmas

@@ -3,8 +3,8 @@ use Rattle.std.proofs.Common.{◌≡◌, ℕ, ◌-◌, ◌<◌, ◌≤◌, inl, 
 use Rattle.std.proofs.lemmas.Bool.{cases_eq, eq-eqb, eqb-true}
 use Rattle.std.proofs.lemmas.List.{get_or_default}
 use Rattle.st_ids.specs.Graph.{tail_of, head_of, AreWithin}
-use Rattle.st_test.specs.Counts.{count_below}
-use Rattle.st_test.proofs.CountLemmas.{none_counted, counted_place}
+use Rattle.st_map.specs.Counting.{count_below}
+use Rattle.st_map.proofs.SumLemmas.{none_counted, counted_place}
 use Rattle.st_test.specs.Poles.{IsOnlySource, IsOnlySink, NoneIn, NoneOut, graph_of}
 use Rattle.st_test.specs.Stripping.{IsStripped, AreDegrees, AreOutDegrees, enters, leaves}
 use Rattle.st_test.specs.StripState.{AreZeros}

@@ -5,7 +5,7 @@ use Rattle.std.proofs.Math.ListN.{set}
 use Rattle.std.proofs.lemmas.List.{length_push, get_or_push, get_or_append_left}
 use Rattle.std.proofs.lemmas.Bool.{cases_eq, cases_lt, cases_Bool, cases_order, eq-eqb, eqb-true, cond-true, cond-false, and_parts, and_from, both_ways, false_from_ne_true, not-true}
 use Rattle.st_ids.specs.Graph.{tail_of, head_of, AreWithin}
-use Rattle.st_test.proofs.CountLemmas.{none_counted, counted_place}
+use Rattle.st_map.proofs.SumLemmas.{none_counted, counted_place}
 use Rattle.st_test.specs.Stripping.{last_below, enters, leaves, AreDegrees, IsStripped}
 use Rattle.st_test.specs.StripState.{member, left_into, State, Released, IsTurn, IsFront, IsReleasing, AreZeros, AreGoing}
 use Rattle.st_test.proofs.StripSteps.{member_old, member_new, member_place, last_below-le, last_below-passes, last_below-none, count_same, short, positive, goes_on, takes}

@@ -5,8 +5,8 @@ use Rattle.std.proofs.Math.ListN.{set}
 use Rattle.std.proofs.lemmas.List.{get_or-set_same, get_or-set_other, length-set, length_push, get_or_push, get_or_append_left}
 use Rattle.std.proofs.lemmas.Bool.{cases_eq, cases_lt, cases_Bool, eq-eqb, ne_eqb, eqb-true, cond-true, cond-false, and_from, and_right, and_left, not_from_false, not_from_true, or_left, or_right, or_cases, both_ways}
 use Rattle.st_ids.specs.Graph.{tail_of, head_of, AreWithin}
-use Rattle.st_test.specs.Counts.{bit, count_below}
-use Rattle.st_test.proofs.CountLemmas.{total-same, none_counted, some_counted}
+use Rattle.st_map.specs.Counting.{bit, count_below}
+use Rattle.st_map.proofs.SumLemmas.{total-same, count_less, none_counted, some_counted}
 use Rattle.st_ids.proofs.FiniteLemmas.{length-le_from_below}
 use Rattle.st_test.proofs.PlaceLemmas.{Contains-from_In, NoRepeat-from_places}
 use Rattle.st_test.specs.Stripping.{last_below, enters}
@@ -42,24 +42,7 @@ place_member [] x k l e = absurd (omega arith)
 place_member (z ∷ zs) x zero l e = or_left (eqb z x) (member zs x) (eq-eqb z x e)
 place_member (z ∷ zs) x (suc k) l e = or_right (eqb z x) (member zs x) (place_member zs x k (omega arith) e)
 
--- ---- one less is counted
-pub count_less : (m : ℕ) (p q : ℕ → Bool) (e : ℕ) → e < m → p e ≡ true → q e ≡ false → ((d : ℕ) → (d ≡ e → ⊥) → p d ≡ q d)
-    → count_below m p ≡ count_below m q + 1
-count_less zero p q e l pe qe same = absurd (omega arith)
-count_less (suc m) p q e l pe qe same = elim (cases_lt e m) [
-  | inl lt ↦
-      let top : bit (p m) ≡ bit (q m) = ap bit (same m (λ c. omega arith)) in
-      omega (arith, count_less m p q e lt pe qe same)
-  | inr ge ↦
-      let at : e ≡ m = omega arith in
-      let bp : bit (p e) ≡ bit (p m) = ap (λ k. bit (p k)) at in
-      let bq : bit (q e) ≡ bit (q m) = ap (λ k. bit (q k)) at in
-      let b1 : bit (p e) ≡ 1 = ap bit pe in
-      let b0 : bit (q e) ≡ 0 = ap bit qe in
-      let rest : count_below m p ≡ count_below m q = total-same m (λ k. bit (p k)) (λ k. bit (q k)) (λ k lk. ap bit (same k (λ c. omega arith))) in
-      omega arith
-]
-
+-- ---- counts
 pub count_same : (m : ℕ) (p q : ℕ → Bool) → ((d : ℕ) → p d ≡ q d) → count_below m p ≡ count_below m q
 count_same m p q same = total-same m (λ k. bit (p k)) (λ k. bit (q k)) (λ k lk. ap bit (same k))
 

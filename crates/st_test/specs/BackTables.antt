@@ -10,7 +10,7 @@
 --   AllListed                      each vertex was taken away
 use Rattle.std.specs.Prelude.{ℕ, ◌≡◌, ◌≢◌, ◌⊎◌, ◌-◌, ◌^◌, ◌<◌, ◌≤◌, Bool, true, false, cond, nat_lt, List, length, slice_index, slice_index_or}
 use Rattle.st_ids.specs.Graph.{tail_of, head_of}
-use Rattle.st_test.specs.Steps.{iterate}
+use Rattle.st_map.specs.Orbits.{iterate}
 
 -- whether the vertex is left
 abbrev pub is_left : List Bool → ℕ → Bool

@@ -10,7 +10,7 @@
 use Rattle.std.specs.Prelude.{ℕ, ◌≡◌, ◌≢◌, ◌⊎◌, ◌<◌, ◌≤◌, ◌==◌, ◌&&◌, ◌||◌, Bool, true, false, List, [], ◌∷◌, length, slice_index}
 use Rattle.std.specs.Prelude.{not}
 use Rattle.st_ids.specs.Graph.{tail_of, head_of}
-use Rattle.st_test.specs.Counts.{count_below}
+use Rattle.st_map.specs.Counting.{count_below}
 use Rattle.st_test.specs.Stripping.{enters, leaves, last_below}
 
 -- whether x is in the list

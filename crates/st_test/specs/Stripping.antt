@@ -7,7 +7,7 @@
 --   IsStripped                  the vertices that were taken away, in that order, with the edges out of them
 use Rattle.std.specs.Prelude.{ℕ, zero, suc, ◌≡◌, ◌≢◌, ◌<◌, ◌==◌, Bool, cond, List, length, slice_index}
 use Rattle.st_ids.specs.Graph.{tail_of, head_of}
-use Rattle.st_test.specs.Counts.{count_below}
+use Rattle.st_map.specs.Counting.{count_below}
 
 -- one more than the last number below n that passes, and 0 where none does
 abbrev pub last_below : ℕ → (ℕ → Bool) → ℕ

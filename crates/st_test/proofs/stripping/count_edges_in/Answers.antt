@@ -1,7 +1,7 @@
 use Rattle.std.proofs.Common.{◌≡◌, ◌<◌, length, get_or, ◌∙◌, arith}
 use Rattle.std.proofs.lemmas.List.{get_or_default}
 use Rattle.st_ids.specs.Graph.{tail_of, head_of}
-use Rattle.st_test.proofs.CountLemmas.{count-le}
+use Rattle.st_map.proofs.SumLemmas.{count-le}
 use Rattle.st_test.specs.Stripping.{enters}
 use Rattle.st_test.proofs.stripping.count_edges_in.Goals as goal
 
