@@ -8,3 +8,4 @@ mod PoleLists
 mod StripGoing
 mod StripSteps
 mod TracingLemmas
+mod VerdictLemmas

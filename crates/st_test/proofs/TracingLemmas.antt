@@ -10,7 +10,7 @@ use Rattle.st_map.specs.Embedded.{Embedded, darts, phi, face, faces}
 use Rattle.st_map.specs.Laws.{FacesAre}
 use Rattle.st_map.proofs.SumLemmas.{count-le}
 use Rattle.st_map.proofs.OrbitLemmas.{iterate-step, iterate-mod, orbit-short, orbit-sym, orbit-stays}
-use Rattle.st_test.specs.FaceNumbers.{is_least, orbit_number, FaceNumbers, AreFaces}
+use Rattle.st_test.specs.FaceNumbers.{is_least, orbit_number, AreFaces}
 use Rattle.st_test.specs.Tracing.{first_within, IsTraced, AreTracedBelow}
 
 fw_same : (n : ℕ) (q r : ℕ → Bool) → ((k : ℕ) → q k ≡ r k) → first_within n q ≡ first_within n r

@@ -6,3 +6,5 @@ pub mod StripState
 pub mod Stripping
 pub mod FaceNumbers
 pub mod Tracing
+pub mod Planar
+pub mod Verdict

@@ -3,6 +3,7 @@
 //! The next end of the face of an end is the clockwise next of its twin. Going through the ends in order, an end without
 //! a number is the least of a new face, which is traced at once.
 ghost use Rattle.std.specs.Prelude.{◌≡◌, ◌<◌, length, IfOk};
+ghost use Rattle.st_ids.specs.Ends.{twin};
 ghost use Rattle.st_map.specs.Embedded.{darts, phi};
 ghost use Rattle.st_map.specs.Orbits.{Permutes};
 ghost use Rattle.st_test.specs.FaceNumbers.{AreFaces};
@@ -13,6 +14,15 @@ use st_ids::{Dart, IdVec, NoMemory};
 use st_map::Map;
 use std::alloc::Global;
 
+/// The other end of the edge.
+fn twin_of(map: &Map, d: Dart) -> Dart
+    requires { d.0 < darts map.now.graph }
+    ensures value { result.0 ≡ twin d.0 }
+    ensures within { result.0 < darts map.now.graph }
+{
+    d.twin()
+}
+
 /// The next end of the face: the clockwise next of the twin.
 #[tactic(auto, unfolding(st_map::specs::Embedded::phi))]
 fn turn(map: &Map, d: Dart) -> Dart
@@ -20,7 +30,7 @@ fn turn(map: &Map, d: Dart) -> Dart
     ensures value { result.0 ≡ phi map.now.graph d.0 }
     ensures within { result.0 < darts map.now.graph }
 {
-    map.next_cw(d.twin())
+    map.next_cw(twin_of(map, d))
 }
 
 /// Gives the ends of a face a number, once round from `start`.
