@@ -7,3 +7,5 @@ mod PlaceLemmas
 mod PoleLists
 mod StripGoing
 mod StripSteps
+mod TracingLemmas
+mod VerdictLemmas

@@ -4,3 +4,7 @@ pub mod Poles
 pub mod PolesAnswer
 pub mod StripState
 pub mod Stripping
+pub mod FaceNumbers
+pub mod Tracing
+pub mod Planar
+pub mod Verdict

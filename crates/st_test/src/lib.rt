@@ -1,17 +1,29 @@
-//! Tests of a graph: its poles, with evidence where it has none.
+//! Tests of a graph: its poles, its faces, and whether it is a planar st-graph, with evidence where it isn't.
 //!
 //! `poles` goes through four tests in their order, and names the first that fails: at least two vertices, no cycle, one
 //! vertex without an edge in, one without an edge out. What each answer means stands in `specs/PolesAnswer.antt`.
+//! `faces` numbers the faces of a map (`specs/FaceNumbers.antt`). `test` asks for Euler's formula and for both poles on
+//! the outer face, and makes an `StGraph`, whose type keeps that it is a planar st-graph (`specs/Planar.antt`).
 #![tactic(auto)]
 
 mod cycle;
 mod digraph_fault;
 mod digraph_tests;
+#[cfg(test)]
+mod embedding_tests;
+mod graph;
 pub mod laws;
+mod orbits;
 mod stripping;
+mod tracing;
+mod verdict;
 
 pub use digraph_fault::{DigraphFault, Poles};
 pub use digraph_tests::poles;
+pub use graph::StGraph;
+pub use orbits::Faces;
+pub use tracing::faces;
+pub use verdict::{EmbedFault, test};
 
 #[cfg(test)]
 mod tests {
