@@ -1,6 +1,9 @@
 pub mod LinkLemmas
 pub mod SearchLemmas
 pub mod WordLemmas
+pub mod VerdictLemmas
+pub mod StageLemmas
+pub mod VerdictOne
 pub mod OneAnswer
 pub mod RunLemmas
 pub mod AnswerLemmas

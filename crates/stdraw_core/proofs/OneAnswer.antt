@@ -1,35 +1,22 @@
--- Words and bytes have at most one answer: each stage has, and so has one stage after another.
-use Rattle.std.proofs.Common.{◌≡◌, ℕ, suc, ◌+◌, ◌*◌, ◌<◌, ◌≤◌, inl, inr, ℤ, pos, Bool, true, false, List, [], ◌∷◌, ◌++◌, length, get_or, Some, None, refl, sym, ap, ◌∙◌, subst, arith}
-use Rattle.std.specs.Prelude.{Result, Ok, Err}
+-- Words and bytes have at most one answer, as each stage has.
+use Rattle.std.proofs.Common.{◌≡◌, ℕ, suc, ◌+◌, ◌*◌, ◌<◌, ◌≤◌, inl, inr, ℤ, pos, List, [], ◌∷◌, ◌++◌, length, get_or, Some, None, refl, sym, ap, ◌∙◌, arith}
+use Rattle.std.specs.Prelude.{Ok, Err}
 use Rattle.gml_core.specs.Trees.{Entries}
 use Rattle.gml_core.proofs.Unique.{one_tree, one_first, not_both}
 use Rattle.st_input.specs.InputGraph.{InputGraph}
+use Rattle.st_test.specs.Planar.{StValue}
+use Rattle.st_test.specs.PolesAnswer.{OnePolesAnswer}
 use Rattle.stdraw_core.specs.declared.words.Command.{Command}
-use Rattle.stdraw_core.specs.declared.words.Command.TheVariants.{Query}
+use Rattle.stdraw_core.specs.declared.words.Command.TheVariants.{Query, Test}
 use Rattle.stdraw_core.specs.declared.stop.Refusal.{Refusal}
-use Rattle.stdraw_core.specs.declared.stop.Refusal.TheVariants.{Words, TooManyBytes, Gml, Shape, UnknownVertex}
-use Rattle.stdraw_core.specs.Stages.{Then, refuses, goes_on, IsOne}
+use Rattle.stdraw_core.specs.declared.stop.Refusal.TheVariants.{Words, TooManyBytes, Gml, Shape, NotSt, UnknownVertex}
+use Rattle.stdraw_core.specs.Stages.{IsOne}
 use Rattle.stdraw_core.specs.Words.{IsName, AreNames, IsCommand}
 use Rattle.stdraw_core.specs.Query.{names_of, AreKnown, IsFirstUnknown, IsLine, line_of_names, AreLines, no_line, one_line}
-use Rattle.stdraw_core.specs.Answer.{Asks, IsFew, IsTree, IsGraph, Answers, AnswersFile, HaveOneAnswer, byte_limit}
-
--- ---- one stage after another
-same_ok : {A : Type 0} (x y : A) → (let a : Result A Refusal = Ok x in a) ≡ Ok y → x ≡ y
-same_ok x y h = cc
-
-mixed : {A : Type 0} (x : A) (r : Refusal) → (let a : Result A Refusal = Ok x in a) ≡ Err r → ⊥
-mixed x r h = cc
-
-one_then : {A B : Type 0} (first : Result A Refusal → Type 0) (next : A → Result B Refusal → Type 0) → IsOne first → ((a : A) → IsOne (next a)) → IsOne (Then first next)
-one_then {A} {B} first next one_first_stage one_next x y (refuses r h e) (refuses s k f) =
-    e ∙ wrap (one_first_stage (Err r) (Err s) h k) ∙ sym f
-  where
-    wrap : {r s : Refusal} → (let a : Result A Refusal = Err r in a) ≡ Err s → (let b : Result B Refusal = Err r in b) ≡ Err s
-    wrap {r} {s} q = let same : r ≡ s = cc in ap (λ (z : Refusal). let b : Result B Refusal = Err z in b) same
-one_then first next one_first_stage one_next x y (refuses r h e) (goes_on b k f) = absurd (mixed b r (one_first_stage (Ok b) (Err r) k h))
-one_then first next one_first_stage one_next x y (goes_on a h e) (refuses s k f) = absurd (mixed a s (one_first_stage (Ok a) (Err s) h k))
-one_then first next one_first_stage one_next x y (goes_on a h e) (goes_on b k f) =
-    one_next b x y (subst (λ z. next z x) (same_ok a b (one_first_stage (Ok a) (Ok b) h k)) e) f
+use Rattle.stdraw_core.specs.Verdict.{IsAccepted}
+use Rattle.stdraw_core.specs.Answer.{Asks, IsFew, IsTree, IsGraph, AnswersQuery, AnswersTest, Answers, AnswersGraph, AnswersFile, HaveOneAnswer, byte_limit}
+use Rattle.stdraw_core.proofs.StageLemmas.{ok, err, one_then, same_bool}
+use Rattle.stdraw_core.proofs.VerdictOne.{accepted_one}
 
 -- ---- the command
 pair_same : (p q : ℤ × ℤ) → p.0 ≡ q.0 → p.1 ≡ q.1 → p ≡ q
@@ -54,8 +41,17 @@ same_names words ps qs h k =
     (same_name (get_or words (2 * i) []) _ _ (h.first i l) (k.first i l'))
     (same_name (get_or words (2 * i + 1) []) _ _ (h.second i l) (k.second i l')))
 
+-- a query has more than one word
+no_pairs : (name : List ℕ) (ps : List (ℤ × ℤ)) → IsCommand (name ∷ []) (Query ps) → ⊥
+no_pairs name ps h = omega (arith, h.1, h.3.size)
+
 same_command : (words : List (List ℕ)) (c d : Command) → IsCommand words c → IsCommand words d → c ≡ d
 same_command [] c d h k = absurd h
+same_command (name ∷ []) Test Test h k = refl
+same_command (name ∷ []) Test (Query ps) h k = absurd (no_pairs name ps k)
+same_command (name ∷ []) (Query ps) Test h k = absurd (no_pairs name ps h)
+same_command (name ∷ word ∷ words) Test d h k = absurd h
+same_command (name ∷ word ∷ words) (Query ps) Test h k = absurd k
 same_command (name ∷ words) (Query ps) (Query qs) h k = ap (λ (z : List (ℤ × ℤ)). Query z) (same_names words ps qs h.3 k.3)
 
 asks_err : (words : List (List ℕ)) (r : Refusal) → Asks words (Err r) → (r ≡ Words) × ((c : Command) → IsCommand words c → ⊥)
@@ -63,13 +59,8 @@ asks_err words Words h = (refl, h)
 asks_err words TooManyBytes h = absurd h
 asks_err words (Gml f) h = absurd h
 asks_err words (Shape f) h = absurd h
+asks_err words (NotSt why) h = absurd h
 asks_err words (UnknownVertex n) h = absurd h
-
-ok : {A : Type 0} (x y : A) → x ≡ y → (let a : Result A Refusal = Ok x in a) ≡ Ok y
-ok {A} x y e = ap (λ (z : A). let a : Result A Refusal = Ok z in a) e
-
-err : {A : Type 0} (r s : Refusal) → r ≡ s → (let a : Result A Refusal = Err r in a) ≡ Err s
-err {A} r s e = ap (λ (z : Refusal). let a : Result A Refusal = Err z in a) e
 
 asks_one : (words : List (List ℕ)) → IsOne (Asks words)
 asks_one words (Ok c) (Ok d) h k = ok c d (same_command words c d h k)
@@ -83,6 +74,7 @@ few_err bytes Words h = absurd h
 few_err bytes TooManyBytes h = (refl, h)
 few_err bytes (Gml f) h = absurd h
 few_err bytes (Shape f) h = absurd h
+few_err bytes (NotSt why) h = absurd h
 few_err bytes (UnknownVertex n) h = absurd h
 
 few_one : (bytes : List ℕ) → IsOne (IsFew bytes)
@@ -97,6 +89,7 @@ tree_apart bytes tree Words h k = k
 tree_apart bytes tree TooManyBytes h k = k
 tree_apart bytes tree (Gml f) h k = not_both bytes tree f h k
 tree_apart bytes tree (Shape f) h k = k
+tree_apart bytes tree (NotSt why) h k = k
 tree_apart bytes tree (UnknownVertex n) h k = k
 
 tree_err : (bytes : List ℕ) (r s : Refusal) → IsTree bytes (Err r) → IsTree bytes (Err s) → r ≡ s
@@ -104,10 +97,12 @@ tree_err bytes (Gml f) (Gml g) h k = ap (λ z. Gml z) (one_first bytes f g h k)
 tree_err bytes (Gml f) Words h k = absurd k
 tree_err bytes (Gml f) TooManyBytes h k = absurd k
 tree_err bytes (Gml f) (Shape g) h k = absurd k
+tree_err bytes (Gml f) (NotSt why) h k = absurd k
 tree_err bytes (Gml f) (UnknownVertex n) h k = absurd k
 tree_err bytes Words s h k = absurd h
 tree_err bytes TooManyBytes s h k = absurd h
 tree_err bytes (Shape f) s h k = absurd h
+tree_err bytes (NotSt why) s h k = absurd h
 tree_err bytes (UnknownVertex n) s h k = absurd h
 
 tree_one : (bytes : List ℕ) → IsOne (IsTree bytes)
@@ -122,6 +117,7 @@ graph_apart tree g Words h k = k
 graph_apart tree g TooManyBytes h k = k
 graph_apart tree g (Gml f) h k = k
 graph_apart tree g (Shape f) h k = let e : None ≡ Some f = sym h.0 ∙ k in cc
+graph_apart tree g (NotSt why) h k = k
 graph_apart tree g (UnknownVertex n) h k = k
 
 graph_err : (tree : Entries) (r s : Refusal) → IsGraph tree (Err r) → IsGraph tree (Err s) → r ≡ s
@@ -129,10 +125,12 @@ graph_err tree (Shape f) (Shape g) h k = let e : Some f ≡ Some g = sym h ∙ k
 graph_err tree (Shape f) Words h k = absurd k
 graph_err tree (Shape f) TooManyBytes h k = absurd k
 graph_err tree (Shape f) (Gml g) h k = absurd k
+graph_err tree (Shape f) (NotSt why) h k = absurd k
 graph_err tree (Shape f) (UnknownVertex n) h k = absurd k
 graph_err tree Words s h k = absurd h
 graph_err tree TooManyBytes s h k = absurd h
 graph_err tree (Gml f) s h k = absurd h
+graph_err tree (NotSt why) s h k = absurd h
 graph_err tree (UnknownVertex n) s h k = absurd h
 
 graph_one : (tree : Entries) → IsOne (IsGraph tree)
@@ -143,13 +141,7 @@ graph_one tree (Err r) (Err s) h k = err r s (graph_err tree r s h k)
 
 -- ---- the query
 same_line : (g : InputGraph) (p : ℤ × ℤ) (l m : List ℕ) → IsLine g p l → IsLine g p m → l ≡ m
-same_line g p l m h k = h.text ∙ ap (line_of_names p.0 p.1) (same_bool h.answer k.answer (λ y. k.reaches.1 (h.reaches.0 y)) (λ y. h.reaches.1 (k.reaches.0 y))) ∙ sym k.text
-  where
-    same_bool : (a b : Bool) → (a ≡ true → b ≡ true) → (b ≡ true → a ≡ true) → a ≡ b
-    same_bool true true f g = refl
-    same_bool true false f g = sym (f refl)
-    same_bool false true f g = g refl
-    same_bool false false f g = refl
+same_line g p l m h k = h.text ∙ ap (line_of_names p.0 p.1) (same_bool h.answer k.answer h.reaches k.reaches) ∙ sym k.text
 
 same_lines : (g : InputGraph) (ps : List (ℤ × ℤ)) (a b : List ℕ) → AreLines g ps a → AreLines g ps b → a ≡ b
 same_lines g ps a b (no_line e) (no_line f) = e ∙ sym f
@@ -167,22 +159,41 @@ same_unknown g (x ∷ ns) n m h k = elim h [
   | inr a ↦ elim k [ inl b ↦ absurd (b.0 a.0.0 a.0.1) | inr b ↦ same_unknown g ns n m a.1 b.1 ]
 ]
 
-query_err : (ps : List (ℤ × ℤ)) (g : InputGraph) (r : Refusal) → Answers (Query ps) g (Err r) → (n : ℤ) × (r ≡ UnknownVertex n) × IsFirstUnknown g (names_of ps) n
+query_err : (ps : List (ℤ × ℤ)) (g : InputGraph) (r : Refusal) → AnswersQuery ps g (Err r) → (n : ℤ) × (r ≡ UnknownVertex n) × IsFirstUnknown g (names_of ps) n
 query_err ps g Words h = absurd h
 query_err ps g TooManyBytes h = absurd h
 query_err ps g (Gml f) h = absurd h
 query_err ps g (Shape f) h = absurd h
+query_err ps g (NotSt why) h = absurd h
 query_err ps g (UnknownVertex n) h = (n, refl, h)
 
-answers_one : (c : Command) (g : InputGraph) → IsOne (Answers c g)
-answers_one (Query ps) g (Ok a) (Ok b) h k = ok a b (same_lines g ps a b h.1 k.1)
-answers_one (Query ps) g (Ok a) (Err s) h k = let e = query_err ps g s k in absurd (known_unknown g (names_of ps) e.0 h.0 e.2)
-answers_one (Query ps) g (Err r) (Ok b) h k = let e = query_err ps g r h in absurd (known_unknown g (names_of ps) e.0 k.0 e.2)
-answers_one (Query ps) g (Err r) (Err s) h k =
+query_one : (ps : List (ℤ × ℤ)) (g : InputGraph) → IsOne (AnswersQuery ps g)
+query_one ps g (Ok a) (Ok b) h k = ok a b (same_lines g ps a b h.1 k.1)
+query_one ps g (Ok a) (Err s) h k = let e = query_err ps g s k in absurd (known_unknown g (names_of ps) e.0 h.0 e.2)
+query_one ps g (Err r) (Ok b) h k = let e = query_err ps g r h in absurd (known_unknown g (names_of ps) e.0 k.0 e.2)
+query_one ps g (Err r) (Err s) h k =
     let e = query_err ps g r h in
     let f = query_err ps g s k in
     err r s (e.1 ∙ ap (λ z. UnknownVertex z) (same_unknown g (names_of ps) e.0 f.0 e.2 f.2) ∙ sym f.1)
 
-pub one_answer : HaveOneAnswer
-one_answer words bytes = one_then (Asks words) (λ command. AnswersFile command bytes) (asks_one words)
-    (λ command. one_then (IsFew bytes) _ (few_one bytes) (λ u. one_then (IsTree bytes) _ (tree_one bytes) (λ tree. one_then (IsGraph tree) (Answers command) (graph_one tree) (answers_one command))))
+-- ---- the test
+test_one : (g : InputGraph) (st : StValue) → IsOne (AnswersTest g st)
+test_one g st (Ok a) (Ok b) h k = ok a b (h ∙ sym k)
+test_one g st (Ok a) (Err s) h k = absurd k
+test_one g st (Err r) y h k = absurd h
+
+-- ---- all stages
+answers_one : (c : Command) (g : InputGraph) (st : StValue) → IsOne (Answers c g st)
+answers_one (Query ps) g st = query_one ps g
+answers_one Test g st = test_one g st
+
+module _ (answer_same : OnePolesAnswer) where
+  graph_answers_one : (c : Command) (g : InputGraph) → IsOne (AnswersGraph c g)
+  graph_answers_one c g = one_then (IsAccepted g) (Answers c g) (accepted_one answer_same g) (answers_one c g)
+
+  file_answers_one : (c : Command) (bytes : List ℕ) → IsOne (AnswersFile c bytes)
+  file_answers_one c bytes = one_then (IsFew bytes) _ (few_one bytes)
+      (λ u. one_then (IsTree bytes) _ (tree_one bytes) (λ tree. one_then (IsGraph tree) (AnswersGraph c) (graph_one tree) (graph_answers_one c)))
+
+pub one_answer : OnePolesAnswer → HaveOneAnswer
+one_answer answer_same words bytes = one_then (Asks words) (λ command. AnswersFile command bytes) (asks_one words) (λ command. file_answers_one answer_same command bytes)

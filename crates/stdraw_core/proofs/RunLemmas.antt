@@ -8,15 +8,18 @@ use Rattle.st_port.specs.Reading.{ReadsWhole}
 use Rattle.st_port.specs.declared.port.ReadEnd.TheVariants.{TooLong}
 use Rattle.st_input.specs.declared.fault.ShapeFault.TheVariants as shape
 use Rattle.stdraw_core.specs.declared.words.Command.{Command}
-use Rattle.stdraw_core.specs.declared.words.Command.TheVariants.{Query}
+use Rattle.stdraw_core.specs.declared.words.Command.TheVariants.{Query, Test}
 use Rattle.stdraw_core.specs.declared.stop.Refusal.{Refusal}
-use Rattle.stdraw_core.specs.declared.stop.Refusal.TheVariants.{Words, TooManyBytes, Gml, Shape, UnknownVertex}
+use Rattle.stdraw_core.specs.declared.stop.Refusal.TheVariants.{Words, TooManyBytes, Gml, Shape, NotSt, UnknownVertex}
 use Rattle.stdraw_core.specs.declared.stop.Stop.{Stop}
 use Rattle.stdraw_core.specs.declared.stop.Stop.TheVariants.{Refused, ReadFault, WriteFault, NoMemory}
 use Rattle.stdraw_core.specs.Stages.{Then, refuses, goes_on}
 use Rattle.stdraw_core.specs.Stops.{Gives}
 use Rattle.stdraw_core.specs.Words.{IsCommand}
-use Rattle.stdraw_core.specs.Answer.{IsFew, IsTree, IsGraph, AnswersFile, byte_limit}
+use Rattle.stdraw_core.specs.Answer.{IsFew, IsTree, IsGraph, Answers, AnswersGraph, AnswersFile, byte_limit}
+use Rattle.st_input.specs.InputGraph.{InputGraph}
+use Rattle.st_test.specs.Planar.{StValue}
+use Rattle.stdraw_core.specs.Verdict.{HasPoles, HasMap, IsPlanar, IsAccepted}
 use Rattle.stdraw_core.specs.Lines.{stop_line, stop_status}
 use Rattle.stdraw_core.specs.Run.{Leaves, IsRefused, Decides, Tells, IsTold, EndsBy}
 
@@ -70,16 +73,26 @@ never_then : {A B : Type 0} (r : Refusal) (first : Result A Refusal → Type 0) 
 never_then {A} {B} r first next no_first no_next (refuses s h e) = no_first (subst (λ z. first (Err z)) (sym (same_refusal {A = B} r s e)) h)
 never_then r first next no_first no_next (goes_on a h g) = no_next a g
 
+not_accepted : (g : InputGraph) → NeverGives TooManyBytes (IsAccepted g)
+not_accepted g = never_then TooManyBytes (HasPoles g) (λ p. Then (HasMap g) (IsPlanar g p)) (λ h. h) (λ p. never_then TooManyBytes (HasMap g) (IsPlanar g p) (λ h. h) (λ m h. h))
+
+no_answer : (command : Command) (g : InputGraph) (st : StValue) → NeverGives TooManyBytes (Answers command g st)
+no_answer (Query pairs) g st = λ h. h
+no_answer Test g st = λ h. h
+
 not_too_long : (command : Command) (bytes : List ℕ) → length bytes ≤ byte_limit → NeverGives TooManyBytes (AnswersFile command bytes)
-not_too_long (Query pairs) bytes few =
-    never_then TooManyBytes (IsFew bytes) _ (λ (over : byte_limit < length bytes). omega (arith, few))
-    (λ u. never_then TooManyBytes (IsTree bytes) _ (λ h. h) (λ tree. never_then TooManyBytes (IsGraph tree) _ (λ h. h) (λ g h. h)))
+not_too_long command bytes few =
+    never_then TooManyBytes (IsFew bytes) (λ _. Then (IsTree bytes) (λ tree. Then (IsGraph tree) (AnswersGraph command))) (λ (over : byte_limit < length bytes). omega (arith, few))
+    (λ u. never_then TooManyBytes (IsTree bytes) (λ tree. Then (IsGraph tree) (AnswersGraph command)) (λ h. h)
+    (λ tree. never_then TooManyBytes (IsGraph tree) (AnswersGraph command) (λ h. h)
+    (λ g. never_then TooManyBytes (IsAccepted g) (Answers command g) (not_accepted g) (no_answer command g))))
 
 leaves_nothing : (command : Command) (bytes : List ℕ) (old new : Option (List ℕ)) → length bytes ≤ byte_limit → IsAtEnd new → (r : Refusal) → AnswersFile command bytes (Err r) → Leaves r old new
 leaves_nothing command bytes old new few end Words h = tt
 leaves_nothing command bytes old new few end TooManyBytes h = absurd (not_too_long command bytes few h)
 leaves_nothing command bytes old new few end (Gml f) h = end
 leaves_nothing command bytes old new few end (Shape f) h = end
+leaves_nothing command bytes old new few end (NotSt why) h = end
 leaves_nothing command bytes old new few end (UnknownVertex n) h = end
 
 pub file_decided : (words : List (List ℕ)) (old new : SourceState) (command : Command) (text : List ℕ) (result : Result (List ℕ) Stop) → IsCommand words command → ReadsWhole old.left new.left byte_limit (Ok text) → IsAtEnd new.left
@@ -108,6 +121,7 @@ pub stopped : (words : List (List ℕ)) (s s' : SourceState) (out d d' : SinkSta
 stopped words s s' out d d' (Refused Words) h line = told words s s' d d' Words h line
 stopped words s s' out d d' (Refused TooManyBytes) h line = told words s s' d d' TooManyBytes h line
 stopped words s s' out d d' (Refused (Gml f)) h line = told words s s' d d' (Gml f) h line
+stopped words s s' out d d' (Refused (NotSt why)) h line = told words s s' d d' (NotSt why) h line
 stopped words s s' out d d' (Refused (UnknownVertex n)) h line = told words s s' d d' (UnknownVertex n) h line
 stopped words s s' out d d' (Refused (Shape shape.NoGraph)) h line = told words s s' d d' (Shape shape.NoGraph) h line
 stopped words s s' out d d' (Refused (Shape (shape.SecondGraph at))) h line = told words s s' d d' (Shape (shape.SecondGraph at)) h line

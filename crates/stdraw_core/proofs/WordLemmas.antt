@@ -3,7 +3,7 @@ use Rattle.std.proofs.Common.{◌≡◌, ℕ, ◌+◌, ◌*◌, ◌<◌, ◌≤�
 use Rattle.std.proofs.lemmas.List.{length_push, get_or_push, get_or_append_left, get_or-map}
 use Rattle.std.proofs.Math.Seq.{take-length}
 use Rattle.std.proofs.lemmas.Bool.{cases_lt}
-use Rattle.stdraw_core.specs.declared.words.Command.TheVariants.{Query}
+use Rattle.stdraw_core.specs.declared.words.Command.TheVariants.{Query, Test}
 use Rattle.stdraw_core.specs.Words.{IsName, AreNames, IsCommand}
 
 -- the first i pairs of words write the names of the pairs
@@ -65,3 +65,8 @@ first_and_rest {X} (y ∷ ys) x l is =
 pub query_words : (words names : List (List ℕ)) (name : List ℕ) (pairs : List (ℤ × ℤ)) → words ≡ name ∷ names → name ≡ codes "query" → 1 ≤ length names → length names ≤ 2000 → AreNames names pairs → IsCommand words (Query pairs)
 query_words words names name pairs is called some few are =
     subst (λ (w : List (List ℕ)). IsCommand w (Query pairs)) (sym is) (called, omega (arith, are.size), omega (arith, are.size), are)
+
+-- the one word of a test
+pub test_words : (words names : List (List ℕ)) (name : List ℕ) → words ≡ name ∷ names → length names ≡ 0 → name ≡ codes "test" → IsCommand words Test
+test_words words [] name is none called = subst (λ (w : List (List ℕ)). IsCommand w Test) (sym is) called
+test_words words (n ∷ names) name is none called = absurd (omega arith)

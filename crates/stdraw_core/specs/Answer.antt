@@ -1,19 +1,23 @@
 -- The program's one answer to words and the bytes of a file, found in stages.
---   Asks, IsFew, IsTree, IsGraph, Answers    the stages: each says what it finds, and when it refuses
+--   Asks, IsFew, IsTree, IsGraph, IsAccepted, Answers    the stages: each says what it finds, and when it refuses
 --   IsAnswer words bytes answer              an output, or the first refusal
 -- Later commands and tests come as further stages or as cases of the last one.
-use Rattle.std.specs.Prelude.{◌≡◌, ℕ, ◌<◌, ◌≤◌, List, length, Some, None, Result, Ok, Err}
+use Rattle.std.specs.Prelude.{◌≡◌, ℕ, ℤ, pos, ◌<◌, ◌≤◌, List, [], ◌++◌, codes, length, Some, None, Result, Ok, Err}
 use Rattle.gml_core.specs.Trees.{Entries}
 use Rattle.gml_core.specs.Reading.{IsText, IsFirstFault}
 use Rattle.st_input.specs.InputGraph.{InputGraph}
 use Rattle.st_input.specs.Embedding.{embedded_graph}
 use Rattle.st_input.specs.FirstFault.{shape_fault}
 use Rattle.stdraw_core.specs.declared.words.Command.{Command}
-use Rattle.stdraw_core.specs.declared.words.Command.TheVariants.{Query}
+use Rattle.stdraw_core.specs.declared.words.Command.TheVariants.{Query, Test}
 use Rattle.stdraw_core.specs.declared.stop.Refusal.{Refusal}
 use Rattle.stdraw_core.specs.declared.stop.Refusal.TheVariants.{Words, TooManyBytes, Gml, Shape, UnknownVertex}
 use Rattle.stdraw_core.specs.Stages.{Then, IsOne}
 use Rattle.stdraw_core.specs.Words.{IsCommand}
+use Rattle.st_map.specs.Embedded.{edges, faces}
+use Rattle.st_test.specs.Planar.{StValue}
+use Rattle.stdraw_core.specs.Lines.{numbered}
+use Rattle.stdraw_core.specs.Verdict.{IsAccepted, vertex_name}
 use Rattle.stdraw_core.specs.Query.{AreKnown, IsFirstUnknown, AreLines, names_of}
 
 -- the greatest numbers of bytes of a file, of vertices and of edges
@@ -50,15 +54,35 @@ IsGraph tree (Ok g) = (shape_fault tree vertex_limit edge_limit ≡ None) × (em
 IsGraph tree (Err (Shape fault)) = shape_fault tree vertex_limit edge_limit ≡ Some fault
 IsGraph tree (Err _) = ⊥
 
--- what the command answers about the graph; of a query the first name that no vertex has is refused
-abbrev pub Answers : Command → InputGraph → Result (List ℕ) Refusal → Type 0
-Answers (Query pairs) g (Ok out) = AreKnown g (names_of pairs) × AreLines g pairs out
-Answers (Query pairs) g (Err (UnknownVertex name)) = IsFirstUnknown g (names_of pairs) name
-Answers (Query pairs) g (Err _) = ⊥
+-- the line of a planar st-graph: how many vertices, edges and faces, and the names of its poles
+abbrev pub test_line : InputGraph → StValue → List ℕ
+test_line g st = (numbered (codes "planar st-graph: ") (pos st.map.graph.vertices) (codes " vertices, ")
+    ++ (numbered [] (pos (edges st.map.graph)) (codes " edges, ") ++ numbered [] (pos (faces st.map.graph)) (codes " faces, source ")))
+    ++ (numbered [] (vertex_name g st.source) (codes ", sink ") ++ numbered [] (vertex_name g st.sink) (codes "\n"))
+
+-- what a query answers: one line a pair, or the first name that no vertex has
+abbrev pub AnswersQuery : List (ℤ × ℤ) → InputGraph → Result (List ℕ) Refusal → Type 0
+AnswersQuery pairs g (Ok out) = AreKnown g (names_of pairs) × AreLines g pairs out
+AnswersQuery pairs g (Err (UnknownVertex name)) = IsFirstUnknown g (names_of pairs) name
+AnswersQuery pairs g (Err _) = ⊥
+
+-- what a test answers: the line of the planar st-graph
+abbrev pub AnswersTest : InputGraph → StValue → Result (List ℕ) Refusal → Type 0
+AnswersTest g st (Ok out) = out ≡ test_line g st
+AnswersTest g st (Err _) = ⊥
+
+-- what the command answers about a planar st-graph
+abbrev pub Answers : Command → InputGraph → StValue → Result (List ℕ) Refusal → Type 0
+Answers (Query pairs) g st answer = AnswersQuery pairs g answer
+Answers Test g st answer = AnswersTest g st answer
+
+-- what the command answers to a graph: the graph is tested first
+abbrev pub AnswersGraph : Command → InputGraph → Result (List ℕ) Refusal → Type 0
+AnswersGraph command g = Then (IsAccepted g) (Answers command g)
 
 -- what the command answers to a file
 abbrev pub AnswersFile : Command → List ℕ → Result (List ℕ) Refusal → Type 0
-AnswersFile command bytes = Then (IsFew bytes) (λ _. Then (IsTree bytes) (λ tree. Then (IsGraph tree) (Answers command)))
+AnswersFile command bytes = Then (IsFew bytes) (λ _. Then (IsTree bytes) (λ tree. Then (IsGraph tree) (AnswersGraph command)))
 
 -- the one answer to words and bytes: an output, or the first refusal
 abbrev pub IsAnswer : List (List ℕ) → List ℕ → Result (List ℕ) Refusal → Type 0

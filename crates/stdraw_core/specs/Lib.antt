@@ -3,6 +3,7 @@ pub mod Search
 pub mod Stages
 pub mod Words
 pub mod Query
+pub mod Verdict
 pub mod Answer
 pub mod Lines
 pub mod Stops

@@ -2,7 +2,8 @@
 --   status_of, code_of    the status of a refusal; its number
 --   line_of               the line of a refusal; stop_line that of any end but Done
 --   numbered              a text, a number in decimal, a text
-use Rattle.std.specs.Prelude.{ℕ, ℤ, pos, List, [], codes, ◌++◌}
+--   spaced, names_line    a space and the name, for each of the names; these and the end of the line
+use Rattle.std.specs.Prelude.{ℕ, ℤ, pos, Bool, true, false, List, [], ◌∷◌, codes, ◌++◌}
 use Rattle.std.specs.Fmt.{signed_decimal}
 use Rattle.gml_core.specs.declared.fault.GmlFault.{GmlFault}
 use Rattle.gml_core.specs.declared.fault.GmlFault.TheVariants as gml
@@ -10,8 +11,10 @@ use Rattle.st_input.specs.declared.fault.ShapeFault.{ShapeFault}
 use Rattle.st_input.specs.declared.fault.ShapeFault.TheVariants as shape
 use Rattle.stdraw_core.specs.declared.stop.Status.{Status}
 use Rattle.stdraw_core.specs.declared.stop.Status.TheVariants as status
+use Rattle.stdraw_core.specs.declared.stop.NotSt.TheVariants as not_st
+use Rattle.stdraw_core.specs.declared.stop.NotSt.{NotSt as Why}
 use Rattle.stdraw_core.specs.declared.stop.Refusal.{Refusal}
-use Rattle.stdraw_core.specs.declared.stop.Refusal.TheVariants.{Words, TooManyBytes, Gml, Shape, UnknownVertex}
+use Rattle.stdraw_core.specs.declared.stop.Refusal.TheVariants.{Words, TooManyBytes, Gml, Shape, NotSt, UnknownVertex}
 use Rattle.stdraw_core.specs.declared.stop.Stop.{Stop}
 use Rattle.stdraw_core.specs.declared.stop.Stop.TheVariants as stop
 
@@ -43,6 +46,7 @@ status_of Words = status.Words
 status_of TooManyBytes = status.Limit
 status_of (Gml fault) = status.Gml
 status_of (Shape fault) = shape_status fault
+status_of (NotSt why) = status.NotSt
 status_of (UnknownVertex name) = status.UnknownVertex
 
 abbrev pub stop_status : Stop → Status
@@ -84,11 +88,47 @@ shape_line (shape.TooManyVertices n) = numbered (codes "limit: ") (pos n) (codes
 shape_line (shape.TooManyEdges m) = numbered (codes "limit: ") (pos m) (codes " edges, at most 60000\n")
 shape_line shape.NoMemory = codes "no memory\n"
 
+-- a space and the name, for each of the names
+abbrev pub spaced : List ℤ → List ℕ
+spaced [] = []
+spaced (n ∷ names) = numbered (codes " ") n [] ++ spaced names
+
+-- the names, each behind a space, and the end of the line
+abbrev pub names_line : List ℤ → List ℕ
+names_line names = spaced names ++ codes "\n"
+
+abbrev pub cycle_line : List ℤ → List ℕ
+cycle_line names = codes "not st: cycle:" ++ names_line names
+
+-- how many, and the first two
+abbrev pub several_line : ℕ → List ℕ → ℤ → ℤ → List ℕ
+several_line count head first second = numbered (codes "not st: ") (pos count) head ++ (numbered [] first (codes " and ") ++ numbered [] second (codes "\n"))
+
+-- how many vertices, edges and faces
+abbrev pub faces_line : ℕ → ℕ → ℕ → List ℕ
+faces_line v e f = numbered (codes "not st: faces: ") (pos v) (codes " vertices, ") ++ (numbered [] (pos e) (codes " edges, ") ++ numbered [] (pos f) (codes " faces\n"))
+
+-- which of the poles the outer face misses
+abbrev pub missed : Bool → Bool → List ℕ
+missed a false = codes "not st: outer face misses the source\n"
+missed false true = codes "not st: outer face misses the sink\n"
+missed true true = codes "not st: outer face misses the source and the sink\n"
+
+abbrev pub not_st_line : Why → List ℕ
+not_st_line (not_st.TooFew n) = placed (codes "not st: too few vertices: ") n
+not_st_line (not_st.Cycle names) = cycle_line names
+not_st_line (not_st.Sources first second count) = several_line count (codes " sources, the first ") first second
+not_st_line (not_st.Sinks first second count) = several_line count (codes " sinks, the first ") first second
+not_st_line (not_st.BadOrder vertex) = numbered (codes "not st: order at vertex ") vertex (codes "\n")
+not_st_line (not_st.BadFaces v e f) = faces_line v e f
+not_st_line (not_st.Outer a b) = missed a b
+
 abbrev pub line_of : Refusal → List ℕ
 line_of Words = codes "words: not a command of stdraw\n"
 line_of TooManyBytes = codes "limit: more than 16777216 bytes\n"
 line_of (Gml fault) = gml_line fault
 line_of (Shape fault) = shape_line fault
+line_of (NotSt why) = not_st_line why
 line_of (UnknownVertex name) = numbered (codes "unknown vertex: ") name (codes "\n")
 
 abbrev pub stop_line : Stop → List ℕ

@@ -6,7 +6,7 @@ use Rattle.std.specs.Prelude.{◌≡◌, ℕ, ◌+◌, ◌*◌, ◌<◌, ◌≤�
 use Rattle.std.specs.Int.{w64}
 use Rattle.std.specs.Str.Parse.{IsNumeral, signed_digits_value, without_leading_sign}
 use Rattle.stdraw_core.specs.declared.words.Command.{Command}
-use Rattle.stdraw_core.specs.declared.words.Command.TheVariants.{Query}
+use Rattle.stdraw_core.specs.declared.words.Command.TheVariants.{Query, Test}
 
 -- an optional sign and at least one digit, of a number in signed 64 bits
 pub record IsName (word : List ℕ) (n : ℤ) : Type 0 where
@@ -27,4 +27,6 @@ most_pairs = 1000
 -- the words are a form of the command
 abbrev pub IsCommand : List (List ℕ) → Command → Type 0
 IsCommand [] command = ⊥
+IsCommand (name ∷ []) Test = name ≡ codes "test"
+IsCommand (name ∷ word ∷ words) Test = ⊥
 IsCommand (name ∷ words) (Query pairs) = (name ≡ codes "query") × (1 ≤ length pairs) × (length pairs ≤ most_pairs) × AreNames words pairs

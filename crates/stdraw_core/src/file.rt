@@ -2,7 +2,7 @@
 ghost use Rattle.std.specs.Prelude.{◌<◌, ◌^◌, length, IfOk, Ok};
 ghost use Rattle.gml_core.specs.Views.{view};
 ghost use Rattle.gml_core.specs.Sound.{IsSound};
-ghost use Rattle.st_input.specs.Names.{AreDifferent};
+ghost use Rattle.st_input.specs.InputGraph.{IsConsistent};
 ghost use Rattle.stdraw_core.specs.Answer.{IsTree, IsGraph};
 ghost use Rattle.stdraw_core.specs.Stops.{StopsAt};
 
@@ -33,7 +33,7 @@ pub fn tree_of(alloc: Global, bytes: &[u8]) -> Result<Tree, Stop>
 pub fn graph_of(alloc: Global, tree: &Tree) -> Result<GraphSpec, Stop>
     requires { IsSound (view tree.now) }
     ensures ok { IfOk result (λ g. IsGraph (view tree.now) (Ok g)) }
-    ensures different { IfOk result (λ g. AreDifferent g.vertex_names) }
+    ensures consistent { IfOk result (λ g. IsConsistent g) }
     ensures err { StopsAt (IsGraph (view tree.now)) result }
 {
     match read_graph(alloc, tree, MOST_VERTICES, MOST_EDGES) {

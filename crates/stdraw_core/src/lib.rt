@@ -11,10 +11,12 @@ mod query;
 mod reach;
 mod report;
 mod stop;
+mod tested;
 mod top;
+mod verdict;
 mod words;
 
-pub use stop::{Refusal, Status, Stop};
+pub use stop::{NameList, NotSt, Refusal, Status, Stop};
 pub use top::run;
 pub use words::{Command, Pairs};
 

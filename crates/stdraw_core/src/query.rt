@@ -3,8 +3,7 @@ ghost use Rattle.std.specs.Prelude.{◌≡◌, ◌++◌, ◌<◌, ◌↔◌, len
 ghost use Rattle.st_ids.specs.Walks.{Reaches};
 ghost use Rattle.st_ids.specs.Graph.{arcs_of};
 ghost use Rattle.st_input.specs.Names.{AreDifferent};
-ghost use Rattle.stdraw_core.specs.declared.words.Command.TheVariants.{Query};
-ghost use Rattle.stdraw_core.specs.Answer.{Answers};
+ghost use Rattle.stdraw_core.specs.Answer.{AnswersQuery};
 ghost use Rattle.stdraw_core.specs.Links.{IsLinked};
 ghost use Rattle.stdraw_core.specs.Query.{line_of_names};
 ghost use Rattle.stdraw_core.specs.Stops.{Gives};
@@ -45,7 +44,7 @@ fn unknown(name: i64) -> Stop
 /// Cost: O(V + E) time and memory for the links and for each pair, and the text.
 pub fn answer_query(alloc: Global, spec: &GraphSpec, pairs: &[(i64, i64)]) -> Result<Text, Stop>
     requires { AreDifferent spec.now.vertex_names }
-    ensures { Gives (Answers (Query pairs.now) spec.now) result }
+    ensures { Gives (AnswersQuery pairs.now spec.now) result }
 {
     let graph = spec.graph();
     let links = match link_edges(alloc, graph.vertices(), graph.ends()) {

@@ -4,10 +4,10 @@
 ghost use Rattle.std.specs.Prelude.{◌≡◌, ◌++◌, OnOk, OnErr, IsTrue};
 ghost use Rattle.st_port.specs.Faults.{Rose, GoesOn};
 ghost use Rattle.st_port.specs.Streams.{Gains, GainsFront};
-ghost use Rattle.stdraw_core.specs.Lines.{gml_line, shape_line, line_of, stop_line, stop_status};
+ghost use Rattle.stdraw_core.specs.Lines.{gml_line, shape_line, names_line, several_line, faces_line, cycle_line, not_st_line, line_of, stop_line, stop_status};
 ghost use Rattle.stdraw_core.specs.Run.{Tells};
 
-use crate::stop::{Refusal, Status, Stop};
+use crate::stop::{NotSt, Refusal, Status, Stop};
 use gml_core::GmlFault;
 use itoa::{Buffer, Integer};
 use st_input::ShapeFault;
@@ -128,6 +128,100 @@ fn write_shape<D: Sink>(diag: &mut D, fault: &ShapeFault) -> Result<(), Failed>
     }
 }
 
+// Writes the names of a cycle's edges, each behind a space, and the end of the line.
+fn write_names<D: Sink>(diag: &mut D, names: &[i64]) -> Result<(), Failed>
+    ensures whole { OnOk result (Gains (D.state diag.old) (D.state diag.new) (names_line names.now)) }
+    ensures prefix { OnErr result (GainsFront (D.state diag.old) (D.state diag.new) (names_line names.now)) }
+    ensures count { GoesOn (D.state diag.old).faults (D.state diag.new).faults }
+    ensures cause { OnErr result (Rose (D.state diag.old).faults (D.state diag.new).faults) }
+{
+    for i in 0..names.len() {
+        write_number(diag, b" ", names[i], b"")?;
+    }
+    write_all(diag, b"\n")
+}
+
+// Writes the line of several vertices without an edge in, or out.
+fn write_several<D: Sink>(
+    diag: &mut D,
+    count: u32,
+    head: &[u8],
+    first: i64,
+    second: i64,
+) -> Result<(), Failed>
+    ensures whole { OnOk result (Gains (D.state diag.old) (D.state diag.new) (several_line count head.now first second)) }
+    ensures prefix { OnErr result (GainsFront (D.state diag.old) (D.state diag.new) (several_line count head.now first second)) }
+    ensures count { GoesOn (D.state diag.old).faults (D.state diag.new).faults }
+    ensures cause { OnErr result (Rose (D.state diag.old).faults (D.state diag.new).faults) }
+{
+    write_number(diag, b"not st: ", count, head)?;
+    write_numbers(diag, b"", first, b" and ", second, b"\n")
+}
+
+// Writes the line of the numbers of vertices, edges and faces.
+fn write_faces<D: Sink>(diag: &mut D, v: u32, e: u32, f: u32) -> Result<(), Failed>
+    ensures whole { OnOk result (Gains (D.state diag.old) (D.state diag.new) (faces_line v e f)) }
+    ensures prefix { OnErr result (GainsFront (D.state diag.old) (D.state diag.new) (faces_line v e f)) }
+    ensures count { GoesOn (D.state diag.old).faults (D.state diag.new).faults }
+    ensures cause { OnErr result (Rose (D.state diag.old).faults (D.state diag.new).faults) }
+{
+    write_number(diag, b"not st: faces: ", v, b" vertices, ")?;
+    write_numbers(diag, b"", e, b" edges, ", f, b" faces\n")
+}
+
+// Writes the line of a cycle.
+fn write_cycle<D: Sink>(diag: &mut D, names: &[i64]) -> Result<(), Failed>
+    ensures whole { OnOk result (Gains (D.state diag.old) (D.state diag.new) (cycle_line names.now)) }
+    ensures prefix { OnErr result (GainsFront (D.state diag.old) (D.state diag.new) (cycle_line names.now)) }
+    ensures count { GoesOn (D.state diag.old).faults (D.state diag.new).faults }
+    ensures cause { OnErr result (Rose (D.state diag.old).faults (D.state diag.new).faults) }
+{
+    write_all(diag, b"not st: cycle:")?;
+    write_names(diag, names)
+}
+
+// Writes the line of a test that the graph fails.
+fn write_not_st<D: Sink>(diag: &mut D, why: &NotSt) -> Result<(), Failed>
+    ensures whole { OnOk result (Gains (D.state diag.old) (D.state diag.new) (not_st_line why.now)) }
+    ensures prefix { OnErr result (GainsFront (D.state diag.old) (D.state diag.new) (not_st_line why.now)) }
+    ensures count { GoesOn (D.state diag.old).faults (D.state diag.new).faults }
+    ensures cause { OnErr result (Rose (D.state diag.old).faults (D.state diag.new).faults) }
+{
+    match why {
+        NotSt::TooFew { n } => write_number(diag, b"not st: too few vertices: ", *n, b"\n"),
+        NotSt::Cycle { edges } => write_cycle(diag, edges.items()),
+        NotSt::Sources {
+            first,
+            second,
+            count,
+        } => write_several(diag, *count, b" sources, the first ", *first, *second),
+        NotSt::Sinks {
+            first,
+            second,
+            count,
+        } => write_several(diag, *count, b" sinks, the first ", *first, *second),
+        NotSt::BadOrder { vertex } => write_number(
+            diag,
+            b"not st: order at vertex ",
+            *vertex,
+            b"\n",
+        ),
+        NotSt::BadFaces { v, e, f } => write_faces(diag, *v, *e, *f),
+        NotSt::Outer {
+            misses_source: true,
+            misses_sink: true,
+        } => write_all(diag, b"not st: outer face misses the source and the sink\n"),
+        NotSt::Outer {
+            misses_source: false,
+            misses_sink: true,
+        } => write_all(diag, b"not st: outer face misses the sink\n"),
+        NotSt::Outer {
+            misses_source: _,
+            misses_sink: false,
+        } => write_all(diag, b"not st: outer face misses the source\n"),
+    }
+}
+
 // Writes the line of a refusal.
 fn write_refusal<D: Sink>(diag: &mut D, refusal: &Refusal) -> Result<(), Failed>
     ensures whole { OnOk result (Gains (D.state diag.old) (D.state diag.new) (line_of refusal.now)) }
@@ -140,6 +234,7 @@ fn write_refusal<D: Sink>(diag: &mut D, refusal: &Refusal) -> Result<(), Failed>
         Refusal::TooManyBytes => write_all(diag, b"limit: more than 16777216 bytes\n"),
         Refusal::Gml(fault) => write_gml(diag, fault),
         Refusal::Shape(fault) => write_shape(diag, fault),
+        Refusal::NotSt(why) => write_not_st(diag, why),
         Refusal::UnknownVertex(name) => write_number(diag, b"unknown vertex: ", *name, b"\n"),
     }
 }

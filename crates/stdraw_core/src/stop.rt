@@ -1,9 +1,12 @@
 //! How a run ends.
-ghost use Rattle.std.specs.Prelude.{◌≡◌};
+ghost use Rattle.std.specs.Prelude.{◌≡◌, [], ◌∷◌, ◌++◌, OnOk, OnErr};
 ghost use Rattle.stdraw_core.specs.Lines.{code_of, status_of, stop_status};
 
 use gml_core::GmlFault;
+use st_ids::NoMemory;
 use st_input::ShapeFault;
+use std::alloc::Global;
+use std::marker::Model;
 
 /// How a run ended. Each status has a number, which the program ends with.
 #[derive(Clone, Copy, Debug, PartialEq, Eq)]
@@ -62,6 +65,90 @@ impl Status {
     }
 }
 
+/// Names in a list, which a contract sees as such.
+#[derive(Debug, Drop)]
+pub struct NameList {
+    held: Vec<i64>,
+}
+
+impl Model for NameList {
+    ghost use Rattle.std.specs.Prelude.{List, ℤ};
+
+    ghost Value = { List ℤ };
+
+    ghost view = { λ a. a.held.items };
+}
+
+impl NameList {
+    /// No name.
+    pub fn new(alloc: Global) -> NameList
+        ensures { result ≡ [] }
+    {
+        NameList {
+            held: Vec::new(alloc),
+        }
+    }
+
+    /// Appends a name.
+    pub fn push(&mut self, name: i64) -> Result<(), NoMemory>
+        ensures ok { OnOk result (self.new ≡ self.old ++ name ∷ []) }
+        ensures err { OnErr result (self.new ≡ self.old) }
+    {
+        match self.held.push(name) {
+            Ok(()) => Ok(()),
+            Err(_) => Err(NoMemory),
+        }
+    }
+
+    /// All names.
+    pub fn items(&self) -> &[i64]
+        ensures { result.now ≡ self.now }
+    {
+        &self.held
+    }
+}
+
+/// Why a graph is no planar st-graph: the first of the seven tests that fails, with its evidence in the names of the
+/// file.
+#[derive(Debug, Drop)]
+pub enum NotSt {
+    /// There are fewer than two vertices.
+    TooFew {
+        n: u32,
+    },
+    /// There is a cycle, of these edges.
+    Cycle {
+        edges: NameList,
+    },
+    /// There are several vertices without an edge in: the first two, and how many.
+    Sources {
+        first: i64,
+        second: i64,
+        count: u32,
+    },
+    /// There are several vertices without an edge out: the first two, and how many.
+    Sinks {
+        first: i64,
+        second: i64,
+        count: u32,
+    },
+    /// The order of this vertex doesn't list each edge at it once and no other.
+    BadOrder {
+        vertex: i64,
+    },
+    /// The numbers of vertices, edges and faces are not those of a planar embedding.
+    BadFaces {
+        v: u32,
+        e: u32,
+        f: u32,
+    },
+    /// The outer face misses a pole.
+    Outer {
+        misses_source: bool,
+        misses_sink: bool,
+    },
+}
+
 /// What words and bytes answer in place of an output.
 #[derive(Debug, Drop)]
 pub enum Refusal {
@@ -73,6 +160,8 @@ pub enum Refusal {
     Gml(GmlFault),
     /// The tree of the file is no graph, or one with too many vertices or edges.
     Shape(ShapeFault),
+    /// The graph is no planar st-graph.
+    NotSt(NotSt),
     /// The first name in the words that is the name of no vertex.
     UnknownVertex(i64),
 }
@@ -89,6 +178,7 @@ impl Refusal {
             Refusal::Shape(ShapeFault::TooManyVertices { .. }) => Status::Limit,
             Refusal::Shape(ShapeFault::TooManyEdges { .. }) => Status::Limit,
             Refusal::Shape(_) => Status::Gml,
+            Refusal::NotSt(_) => Status::NotSt,
             Refusal::UnknownVertex(_) => Status::UnknownVertex,
         }
     }

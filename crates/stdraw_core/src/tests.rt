@@ -96,11 +96,6 @@ fn says_which_vertex_reaches_which(rt: HostRuntime) -> Result<(), Fail> {
             b"graph [ node [ id -1 ] node [ id 1 ] edge [ source 1 target -1 ] ]",
             b"-1 1 no\n",
         ),
-        done(
-            "query 1 2 2 1 1 1",
-            b"graph [ node [ id 1 ] node [ id 2 ] edge [ source 1 target 2 ] edge [ source 2 target 1 ] ]",
-            b"1 2 yes\n2 1 yes\n1 1 yes\n",
-        ),
     ];
     for row in &rows {
         check(&rt, rt.alloc(), row)?;
@@ -189,6 +184,101 @@ fn refuses_other_words_and_unknown_vertices(rt: HostRuntime) -> Result<(), Fail>
 }
 
 #[test]
+fn tests_for_planar_st_graphs(rt: HostRuntime) -> Result<(), Fail> {
+    let rows = [
+        done(
+            "test",
+            b"graph [ node [ id 1 ] node [ id 2 ] node [ id 3 ] node [ id 4 ] edge [ source 1 target 2 ] edge [ source 1 target 3 ] edge [ source 2 target 4 ] edge [ source 3 target 4 ] ]\n",
+            b"planar st-graph: 4 vertices, 4 edges, 2 faces, source 1, sink 4\n",
+        ),
+        done(
+            "test",
+            b"graph [ node [ id 1 ] node [ id 2 ] node [ id 3 ] node [ id 4 ] node [ id 5 ] node [ id 6 ] node [ id 7 ] edge [ source 1 target 2 ] edge [ source 1 target 3 ] edge [ source 2 target 4 ] edge [ source 3 target 4 ] edge [ source 4 target 5 ] edge [ source 4 target 6 ] edge [ source 5 target 7 ] edge [ source 6 target 7 ] ]\n",
+            b"planar st-graph: 7 vertices, 8 edges, 3 faces, source 1, sink 7\n",
+        ),
+        done(
+            "test",
+            b"graph [ node [ id 1 ] node [ id 2 ] node [ id 3 ] node [ id 4 ] edge [ source 1 target 2 ] edge [ source 2 target 4 ] edge [ source 2 target 3 ] edge [ source 1 target 3 ] edge [ source 3 target 4 ] outer [ edge 0 side 0 ] ]\n",
+            b"planar st-graph: 4 vertices, 5 edges, 3 faces, source 1, sink 4\n",
+        ),
+        done(
+            "test",
+            b"graph [ node [ id 1 ] node [ id 2 ] edge [ source 1 target 2 ] edge [ source 1 target 2 ] ]\n",
+            b"planar st-graph: 2 vertices, 2 edges, 2 faces, source 1, sink 2\n",
+        ),
+        done(
+            "test",
+            b"graph [ node [ id 1 ] node [ id 2 ] node [ id 3 ] node [ id 4 order [ e 4 e 5 e 3 e 2 ] ] node [ id 5 ] node [ id 6 ] node [ id 7 ] edge [ source 1 target 2 ] edge [ source 1 target 3 ] edge [ source 2 target 4 ] edge [ source 3 target 4 ] edge [ source 4 target 5 ] edge [ source 4 target 6 ] edge [ source 5 target 7 ] edge [ source 6 target 7 ] ]\n",
+            b"planar st-graph: 7 vertices, 8 edges, 3 faces, source 1, sink 7\n",
+        ),
+        refused(
+            "test",
+            b"graph [ ]",
+            Status::NotSt,
+            b"not st: too few vertices: 0\n",
+        ),
+        refused(
+            "query 1 1",
+            b"graph [ node [ id 1 ] ]\n",
+            Status::NotSt,
+            b"not st: too few vertices: 1\n",
+        ),
+        refused(
+            "test",
+            b"graph [ node [ id 1 ] node [ id 2 ] node [ id 3 ] edge [ source 1 target 2 ] edge [ source 2 target 3 ] edge [ source 3 target 1 ] ]\n",
+            Status::NotSt,
+            b"not st: cycle: 0 1 2\n",
+        ),
+        refused(
+            "test",
+            b"graph [ node [ id 1 ] node [ id 2 ] edge [ source 1 target 2 ] edge [ source 2 target 2 ] ]\n",
+            Status::NotSt,
+            b"not st: cycle: 1\n",
+        ),
+        refused(
+            "query 1 2",
+            b"graph [ node [ id 1 ] node [ id 2 ] edge [ source 1 target 2 ] edge [ source 2 target 1 ] ]\n",
+            Status::NotSt,
+            b"not st: cycle: 0 1\n",
+        ),
+        refused(
+            "test",
+            b"graph [ node [ id 1 ] node [ id 2 ] node [ id 3 ] node [ id 4 ] node [ id 5 ] edge [ source 1 target 2 ] edge [ source 1 target 3 ] edge [ source 2 target 4 ] edge [ source 3 target 4 ] ]\n",
+            Status::NotSt,
+            b"not st: 2 sources, the first 1 and 5\n",
+        ),
+        refused(
+            "test",
+            b"graph [ node [ id 1 ] node [ id 2 ] node [ id 3 ] edge [ source 1 target 2 ] edge [ source 1 target 3 ] ]\n",
+            Status::NotSt,
+            b"not st: 2 sinks, the first 2 and 3\n",
+        ),
+        refused(
+            "test",
+            b"graph [ node [ id 1 order [ e 0 e 0 ] ] node [ id 2 ] node [ id 3 ] node [ id 4 ] edge [ source 1 target 2 ] edge [ source 1 target 3 ] edge [ source 2 target 4 ] edge [ source 3 target 4 ] ]\n",
+            Status::NotSt,
+            b"not st: order at vertex 1\n",
+        ),
+        refused(
+            "test",
+            b"graph [ node [ id 1 ] node [ id 2 ] node [ id 3 ] node [ id 4 order [ e 4 e 3 e 5 e 2 ] ] node [ id 5 ] node [ id 6 ] node [ id 7 ] edge [ source 1 target 2 ] edge [ source 1 target 3 ] edge [ source 2 target 4 ] edge [ source 3 target 4 ] edge [ source 4 target 5 ] edge [ source 4 target 6 ] edge [ source 5 target 7 ] edge [ source 6 target 7 ] ]\n",
+            Status::NotSt,
+            b"not st: faces: 7 vertices, 8 edges, 1 faces\n",
+        ),
+        refused(
+            "test",
+            b"graph [ node [ id 1 ] node [ id 2 ] node [ id 3 ] node [ id 4 ] edge [ source 1 target 2 ] edge [ source 2 target 4 ] edge [ source 2 target 3 ] edge [ source 1 target 3 ] edge [ source 3 target 4 ] outer [ edge 3 side 0 ] ]\n",
+            Status::NotSt,
+            b"not st: outer face misses the sink\n",
+        ),
+    ];
+    for row in &rows {
+        check(&rt, rt.alloc(), row)?;
+    }
+    Ok(())
+}
+
+#[test]
 fn tells_faults_of_the_streams(rt: HostRuntime) -> Result<(), Fail> {
     let alloc = rt.alloc();
     let words = words_of(alloc, "query 1 2")?;
@@ -229,30 +319,44 @@ fn runs_over_a_reader_and_a_writer(rt: HostRuntime) -> Result<(), Fail> {
     Ok(())
 }
 
-// A file with vertices 1, 2 and on, and so many edges from 1 to 2.
-fn file_of(alloc: Global, vertices: u32, edges: u32) -> Result<Text, Fail> {
+// A file with vertices 1, 2 and on, each with an edge to the next, and so many more edges from 1 to 2.
+fn file_of(alloc: Global, vertices: u32, more: u32) -> Result<Text, Fail> {
     let mut file = Text::new(alloc);
     let mut buffer = Buffer::new();
     file.append(b"graph [ ")?;
-    for v in 0..vertices {
+    for v in 1..u64::from(vertices) + 1 {
         file.append(b"node [ id ")?;
-        file.append(buffer.format(u64::from(v) + 1).as_bytes())?;
+        file.append(buffer.format(v).as_bytes())?;
         file.append(b" ] ")?;
     }
-    for _ in 0..edges {
+    for v in 1..u64::from(vertices) {
+        file.append(b"edge [ source ")?;
+        file.append(buffer.format(v).as_bytes())?;
+        file.append(b" target ")?;
+        file.append(buffer.format(v + 1).as_bytes())?;
+        file.append(b" ] ")?;
+    }
+    for _ in 0..more {
         file.append(b"edge [ source 1 target 2 ] ")?;
     }
     file.append(b"]\n")?;
     Ok(file)
 }
 
-fn check_limit(rt: &impl Abort, alloc: Global, file: &[u8], line: &[u8]) -> Result<(), Fail> {
-    let words = words_of(alloc, "query 1 1")?;
+fn check_size(
+    rt: &impl Abort,
+    alloc: Global,
+    file: &[u8],
+    out: &[u8],
+    line: &[u8],
+) -> Result<(), Fail> {
+    let words = words_of(alloc, "test")?;
     let mut src = MemSource::new(alloc, file, 0, &[])?;
-    let mut out = MemSink::new(alloc, 100, 0, &[])?;
+    let mut to = MemSink::new(alloc, 100, 0, &[])?;
     let mut diag = MemSink::new(alloc, 100, 0, &[])?;
-    let status = run(alloc, &words, &mut src, &mut out, &mut diag);
+    let status = run(alloc, &words, &mut src, &mut to, &mut diag);
     assert_eq!(rt; status == Status::Limit, !line.is_empty());
+    assert_eq!(rt; to.taken(), out);
     assert_eq!(rt; diag.taken(), line);
     Ok(())
 }
@@ -260,19 +364,30 @@ fn check_limit(rt: &impl Abort, alloc: Global, file: &[u8], line: &[u8]) -> Resu
 #[test]
 fn holds_to_the_limits(rt: HostRuntime) -> Result<(), Fail> {
     let alloc = rt.alloc();
-    check_limit(&rt, alloc, file_of(alloc, 20_000, 60_000)?.bytes(), b"")?;
-    check_limit(
+    let path = b"planar st-graph: 20000 vertices, 19999 edges, 1 faces, source 1, sink 20000\n";
+    check_size(&rt, alloc, file_of(alloc, 20_000, 0)?.bytes(), path, b"")?;
+    let bundle = b"planar st-graph: 2 vertices, 60000 edges, 60000 faces, source 1, sink 2\n";
+    check_size(&rt, alloc, file_of(alloc, 2, 59_999)?.bytes(), bundle, b"")?;
+    check_size(
         &rt,
         alloc,
         file_of(alloc, 20_001, 0)?.bytes(),
+        b"",
         b"limit: 20001 vertices, at most 20000\n",
     )?;
-    check_limit(
+    check_size(
         &rt,
         alloc,
-        file_of(alloc, 2, 60_001)?.bytes(),
+        file_of(alloc, 2, 60_000)?.bytes(),
+        b"",
         b"limit: 60001 edges, at most 60000\n",
     )?;
     let spaces = vec![in alloc; 32u8; 16_777_217]?;
-    check_limit(&rt, alloc, &spaces, b"limit: more than 16777216 bytes\n")
+    check_size(
+        &rt,
+        alloc,
+        &spaces,
+        b"",
+        b"limit: more than 16777216 bytes\n",
+    )
 }

@@ -2,8 +2,9 @@
 ghost use Rattle.std.specs.Prelude.{◌≡◌, ◌≢◌, ◌≤◌, ◌<◌, length, map, IfOk, IsErrOf};
 ghost use Rattle.std.specs.String.{string_bytes};
 ghost use Rattle.st_port.specs.Faults.{GoesOn};
+ghost use Rattle.st_input.specs.InputGraph.{IsConsistent};
 ghost use Rattle.st_input.specs.Names.{AreDifferent};
-ghost use Rattle.stdraw_core.specs.Answer.{Answers, AnswersFile, byte_limit};
+ghost use Rattle.stdraw_core.specs.Answer.{Answers, AnswersGraph, AnswersFile, byte_limit};
 ghost use Rattle.stdraw_core.specs.Run.{Decides, EndsBy};
 ghost use Rattle.stdraw_core.specs.Stops.{Gives};
 
@@ -11,22 +12,44 @@ use crate::file::{graph_of, tree_of};
 use crate::query::answer_query;
 use crate::report::{emit, report};
 use crate::stop::{Refusal, Status, Stop};
+use crate::tested::answer_test;
+use crate::verdict::accept;
 use crate::words::{Command, command_of};
 use st_ids::{NoMemory, Text};
 use st_input::GraphSpec;
 use st_port::{Failed, ReadEnd, Sink, Source, read_all};
+use st_test::StGraph;
 use std::alloc::Global;
 
 const MOST_BYTES: usize = 16_777_216;
 
-// What the command answers about the graph.
-fn answer_command(alloc: Global, command: &Command, graph: &GraphSpec) -> Result<Text, Stop>
-    requires { AreDifferent graph.now.vertex_names }
-    ensures { Gives (Answers command.now graph.now) result }
+// What the command answers about a planar st-graph.
+fn answer_command(
+    alloc: Global,
+    command: &Command,
+    spec: &GraphSpec,
+    graph: &StGraph,
+) -> Result<Text, Stop>
+    requires different { AreDifferent spec.now.vertex_names }
+    requires names { length spec.now.vertex_names ≡ graph.now.map.graph.vertices }
+    ensures { Gives (Answers command.now spec.now graph.now) result }
 {
     match command {
-        Command::Query(pairs) => answer_query(alloc, graph, pairs.items()),
+        Command::Query(pairs) => answer_query(alloc, spec, pairs.items()),
+        Command::Test => answer_test(alloc, spec, graph),
     }
+}
+
+// What the command answers to a graph.
+fn answer_graph(alloc: Global, command: &Command, spec: &GraphSpec) -> Result<Text, Stop>
+    requires { IsConsistent spec.now }
+    ensures { Gives (AnswersGraph command.now spec.now) result }
+{
+    let graph = match accept(alloc, spec) {
+        Ok(graph) => graph,
+        Err(stop) => return Err(stop),
+    };
+    answer_command(alloc, command, spec, &graph)
 }
 
 // What the command answers to the bytes of a file.
@@ -42,7 +65,7 @@ fn answer_file(alloc: Global, command: &Command, bytes: &[u8]) -> Result<Text, S
         Ok(graph) => graph,
         Err(stop) => return Err(stop),
     };
-    answer_command(alloc, command, &graph)
+    answer_graph(alloc, command, &graph)
 }
 
 // What is answered to the words and to what the source has left.

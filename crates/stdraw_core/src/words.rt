@@ -57,6 +57,8 @@ impl Pairs {
 pub enum Command {
     /// Whether the first vertex of each pair reaches the second.
     Query(Pairs),
+    /// Whether the graph is a planar st-graph.
+    Test,
 }
 
 // The vertex name that a word writes.
@@ -96,6 +98,9 @@ pub fn command_of(alloc: Global, words: &[String]) -> Result<Option<Command>, No
     let [name, names @ ..] = words else {
         return Ok(None);
     };
+    if name.as_str() == "test" && names.is_empty() {
+        return Ok(Some(Command::Test));
+    }
     if name.as_str() != "query" || names.is_empty() || names.len() > 2 * MOST_PAIRS {
         return Ok(None);
     }

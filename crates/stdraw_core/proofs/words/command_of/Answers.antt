@@ -2,7 +2,7 @@ use Rattle.std.proofs.Common.{rules, ◌≡◌, ◌≤◌, ◌-◌, length, map,
 use Rattle.std.specs.String.{string_bytes}
 use Rattle.std.proofs.lemmas.List.{length-map}
 use Rattle.stdraw_core.specs.Words.{AreNames}
-use Rattle.stdraw_core.proofs.WordLemmas.{first_and_rest, query_words}
+use Rattle.stdraw_core.proofs.WordLemmas.{first_and_rest, query_words, test_words}
 use Rattle.stdraw_core.proofs.words.command_of.Goals as goal
 
 pub returns-in-Some : goal.returns-in-Some
@@ -14,3 +14,11 @@ returns-in-Some c =
     let are : AreNames (map string_bytes (take (length c.args.words.now - 1) (drop 1 c.args.words.now))) c.in-Some.pairs = rw c.in-Some.is at c.in_ok-pairs.ensures in
     query_words (map string_bytes c.args.words.now) (map string_bytes (take (length c.args.words.now - 1) (drop 1 c.args.words.now))) (string_bytes c.name-item.result) c.in-Some.pairs
     (ap (map string_bytes) split) called (omega (arith, some, length-map (take (length c.args.words.now - 1) (drop 1 c.args.words.now)) string_bytes)) (omega (arith, few, length-map (take (length c.args.words.now - 1) (drop 1 c.args.words.now)) string_bytes)) are
+
+pub returns-then-is_empty : goal.returns-then-is_empty
+returns-then-is_empty c =
+    let split = first_and_rest c.args.words.now c.name-item.result (omega arith) c.name-item.is in
+    let called : string_bytes c.name-item.result ≡ codes "test" = search rules in
+    let none : length (take (length c.args.words.now - 1) (drop 1 c.args.words.now)) ≡ 0 = search rules in
+    test_words (map string_bytes c.args.words.now) (map string_bytes (take (length c.args.words.now - 1) (drop 1 c.args.words.now))) (string_bytes c.name-item.result) (ap (map string_bytes) split)
+    (omega (arith, none, length-map (take (length c.args.words.now - 1) (drop 1 c.args.words.now)) string_bytes)) called
