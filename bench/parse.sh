@@ -8,7 +8,7 @@
 here=$(CDPATH='' cd "$(dirname "$0")" && pwd) || exit 1
 work=$(mktemp -d) || exit 1
 trap 'rm -rf "$work"' EXIT
-program=$here/../crates/stdraw/out/stdraw
+program=${STDRAW:-$here/../crates/stdraw/out/stdraw}
 [ -x "$program" ] || { echo "parse: the program isn't built (./stdraw builds it)" >&2; exit 1; }
 
 # make FILLER: the file, with the filler as often as it fits.

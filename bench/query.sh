@@ -32,7 +32,7 @@ words=$(awk 'BEGIN {
         printf "%d %d ", from, to
     }
 }')
-program=$here/../crates/stdraw/out/stdraw
+program=${STDRAW:-$here/../crates/stdraw/out/stdraw}
 [ -x "$program" ] || { echo "query: the program isn't built (./stdraw builds it)" >&2; exit 1; }
 # The words are to be split.
 # shellcheck disable=SC2086

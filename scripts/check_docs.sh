@@ -4,9 +4,9 @@
 # A fenced block of the kind `console` has commands, each behind `$ `, and below each what it prints on both streams. The
 # commands of a block run in one shell, in a folder where ./stdraw is the built program and examples/ is at hand.
 # Every link to a file of the repository is looked up too. Ends with 0 where all agree; without the built program the
-# commands are skipped.
+# commands are skipped. STDRAW names another program to be asked, by its whole path.
 top=$(CDPATH='' cd "$(dirname "$0")/.." && pwd) || exit 1
-program=$top/crates/stdraw/out/stdraw
+program=${STDRAW:-$top/crates/stdraw/out/stdraw}
 failed=0
 tried=0
 

@@ -4,9 +4,10 @@
 #   NAME.words   the words, `query 1 1` where it isn't there
 #   NAME.out     the whole output: then the status is 0 and no line is written
 #   NAME.line    the diagnostic line: then the output is empty, and the status is the line's
-# Ends with 0 where all agree, and where the program isn't built.
+# Ends with 0 where all agree, and where the program isn't built. STDRAW names another program to be asked, by its whole
+# path.
 top=$(CDPATH='' cd "$(dirname "$0")/.." && pwd) || exit 1
-program=$top/crates/stdraw/out/stdraw
+program=${STDRAW:-$top/crates/stdraw/out/stdraw}
 if [ ! -x "$program" ]; then
     echo "check_examples: skipped, the program isn't built (./stdraw builds it)"
     exit 0
@@ -22,6 +23,7 @@ tried=0
 # The status that goes with a diagnostic line.
 status_of() {
     case $1 in
+        "not st: "*) echo 1 ;;
         "words: "*) echo 2 ;;
         "gml: "*) echo 3 ;;
         "limit: "*) echo 4 ;;

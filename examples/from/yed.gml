@@ -26,19 +26,22 @@ graph
 	node
 	[
 		id	1
-		label	"group
-of two"
-		isGroup	1
+		label	"two
+lines"
 	]
 	node
 	[
 		id	2
 		label	"B (1)"
-		gid	1
 	]
 	edge
 	[
 		source	0
+		target	1
+	]
+	edge
+	[
+		source	1
 		target	2
 		graphics
 		[
