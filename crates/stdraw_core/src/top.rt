@@ -94,7 +94,8 @@ fn decide<S: Source>(alloc: Global, words: &[String], src: &mut S) -> Result<Tex
 /// `Done`, the diagnostic line with every other status. A fault of `diag` changes nothing.
 ///
 /// Errors: each status of `Status` but those of commands that are not built yet.
-/// Cost: for `query`, near linear time in the file for each pair; about 200 bytes of memory a pair of the file at most.
+/// Cost: near linear time in the file, and for `query` O(V + E) for each pair besides; for each pair of the file about
+/// 100 to 170 bytes of memory, and the file itself. Not proved.
 pub fn run<S: Source, K: Sink, D: Sink>(
     alloc: Global,
     words: &[String],
