@@ -1,0 +1,13 @@
+pub mod Conditions
+pub mod Corners
+pub mod Example
+pub mod GraphWalks
+pub mod Laws
+pub mod LocalSides
+pub mod Normal
+pub mod Objects
+pub mod Runs
+pub mod Sides
+pub mod SidesOf
+pub mod Stretches
+pub mod Sweep
