@@ -1,4 +1,4 @@
--- The count of corners, for a permutation phi of n darts, a test out on darts, and a vertex below m for each dart.
+-- The count of corners, for a permutation phi of n ends, a test out on ends, and a vertex below m for each end.
 -- Each orbit of phi has a turn up and a turn down, each vertex but s and t has a corner of each other kind, and
 -- Euler's formula leaves room for no more.
 use Rattle.std.proofs.Common.{◌≡◌, ℕ, ◌+◌, ◌*◌, ◌<◌, ◌≤◌, Bool, true, false, not, eqb, ◌&&◌, refl, sym, ap, ◌∙◌, arith}

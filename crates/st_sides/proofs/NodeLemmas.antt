@@ -56,7 +56,7 @@ module _ (g : Embedded) (s t outer : ℕ) (st : IsPlanarSt g s t outer) where
   unfolding face
   same_orbit d e ld le h = same-from_root (darts g) (phi g) (perm_st g s t outer st) d e ld le h
 
-  -- the first dart of its face is the face
+  -- the first end of its face is the face
   pub first_is_face : (d : ℕ) → d < darts g → ((e : ℕ) → e < d → face g e ≢ face g d) → face g d ≡ d
   first_is_face d l h =
       let le : face g d ≤ d = face-le d l in
