@@ -1,0 +1,121 @@
+//! A line that is being built, in a fixed buffer.
+ghost use Rattle.std.specs.Prelude.{◌≡◌, ◌+◌, ◌≤◌, ℤ, pos, ◌≤ℤ◌, [], ◌∷◌, ◌++◌, length};
+ghost use Rattle.std.specs.Fmt.{decimal, signed_decimal};
+ghost use Rattle.eps_core.specs.Text.{at, beside, printed};
+
+use itoa::Buffer;
+use std::marker::Model;
+
+// More than the longest line with its line feed.
+const ROOM: usize = 256;
+
+/// A line of at most 256 bytes. A contract sees the list of them.
+#[derive(Drop)]
+pub struct Line {
+    bytes: [u8; ROOM],
+    len: usize,
+}
+
+impl Model for Line {
+    ghost use Rattle.std.specs.Prelude.{List, ℕ, take, ◌≤◌};
+
+    ghost Value = { List ℕ };
+
+    ghost view = { λ a. take a.len a.bytes };
+
+    ghost invariant = { λ a. a.len ≤ 256 };
+}
+
+impl Line {
+    /// The empty line.
+    pub fn new() -> Line
+        ensures { result ≡ [] }
+    {
+        Line {
+            bytes: [0; ROOM],
+            len: 0,
+        }
+    }
+
+    /// The bytes so far.
+    pub fn bytes(&self) -> &[u8]
+        ensures { result.now ≡ self.now }
+    {
+        &self.bytes[..self.len]
+    }
+
+    /// Puts bytes at the end.
+    pub fn put(&mut self, piece: &[u8])
+        requires { length self.old + length piece.now ≤ 256 }
+        ensures { self.new ≡ self.old ++ piece.now }
+    {
+        let end = self.len + piece.len();
+        self.bytes[self.len..end].copy_from_slice(piece);
+        self.len = end;
+    }
+
+    /// Puts a space and a word at the end.
+    pub fn word(&mut self, piece: &[u8])
+        requires { length self.old + length piece.now ≤ 255 }
+        ensures text { self.new ≡ self.old ++ 32 ∷ piece.now }
+        ensures len { length self.new ≡ length self.old + (length piece.now + 1) }
+    {
+        self.put(b" ");
+        self.put(piece);
+    }
+
+    /// Puts a space and a number in decimal at the end.
+    pub fn number(&mut self, n: i64)
+        requires { length self.old + 21 ≤ 256 }
+        ensures text { self.new ≡ self.old ++ 32 ∷ signed_decimal n }
+        ensures len { length self.new ≤ length self.old + 21 }
+    {
+        let mut buffer = Buffer::new();
+        self.word(buffer.format(n).as_bytes());
+    }
+
+    /// Begins the line with a coordinate of a label.
+    pub fn start_beside(&mut self, g: i64)
+        requires empty { self.old ≡ [] }
+        requires low { pos 0 ≤ℤ g }
+        requires high { g ≤ℤ pos 50000000 }
+        ensures text { self.new ≡ beside g }
+        ensures len { length self.new ≤ 20 }
+    {
+        let mut buffer = Buffer::new();
+        self.put(buffer.format(24 * g + 42).as_bytes());
+    }
+
+    /// Puts a space and a side of the bounding box at the end.
+    pub fn edge(&mut self, g: i64)
+        requires room { length self.old + 21 ≤ 256 }
+        requires low { pos 0 ≤ℤ g }
+        requires high { g ≤ℤ pos 50000000 }
+        ensures text { self.new ≡ self.old ++ 32 ∷ signed_decimal (printed 72 g) }
+        ensures len { length self.new ≤ length self.old + 21 }
+    {
+        self.number(24 * g + 72);
+    }
+
+    /// Puts a space and a coordinate of a label at the end.
+    pub fn beside(&mut self, g: i64)
+        requires room { length self.old + 21 ≤ 256 }
+        requires low { pos 0 ≤ℤ g }
+        requires high { g ≤ℤ pos 50000000 }
+        ensures text { self.new ≡ self.old ++ 32 ∷ beside g }
+        ensures len { length self.new ≤ length self.old + 21 }
+    {
+        self.number(24 * g + 42);
+    }
+
+    /// Puts a space and a coordinate of the grid at the end.
+    pub fn at(&mut self, g: i64)
+        requires room { length self.old + 21 ≤ 256 }
+        requires low { pos 0 ≤ℤ g }
+        requires high { g ≤ℤ pos 50000000 }
+        ensures text { self.new ≡ self.old ++ 32 ∷ at g }
+        ensures len { length self.new ≤ length self.old + 21 }
+    {
+        self.number(24 * g + 36);
+    }
+}
