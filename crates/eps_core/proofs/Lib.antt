@@ -5,4 +5,5 @@ pub mod Items
 pub mod Numbers
 pub mod Pictures
 pub mod Plain
+pub mod Short
 pub mod Writes
