@@ -2,6 +2,7 @@ pub mod Conditions
 pub mod Corners
 pub mod Example
 pub mod GraphWalks
+pub mod Held
 pub mod Laws
 pub mod LocalSides
 pub mod Normal

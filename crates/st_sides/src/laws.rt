@@ -3,7 +3,12 @@ ghost use Rattle.st_sides.specs.Example.{two_edges};
 ghost use Rattle.st_sides.specs.Laws.{CornersLaw, LocalLaw, SidesLaw};
 ghost use Rattle.st_sides.specs.Normal.{NormalLaw};
 ghost use Rattle.st_sides.specs.SidesOf.{ExistLaw, MeaningLaw, OwnLaw, SweptLaw, TrichotomyLaw};
+ghost use Rattle.st_sides.specs.Sides.{IsSides};
+ghost use Rattle.st_sides.specs.Sweep.{BoundaryLaw, SweepLaw};
+ghost use Rattle.st_sides.specs.Objects.{Trichotomy};
 ghost use Rattle.st_test.specs.Planar.{IsPlanarSt};
+
+use crate::Sides;
 
 /// There is a planar st-graph: two edges from one vertex to another, where the tail end of the first names the outer face.
 pub fn example()
@@ -71,3 +76,29 @@ pub fn swept()
 pub fn one_of_four()
     ensures { TrichotomyLaw }
 {}
+
+/// All that holds near each vertex and each face, for every value of `Sides`.
+pub fn local(sides: &Sides)
+    ensures { IsSides sides.now }
+{
+    sides.facts();
+}
+
+/// Boundaries and the sweep, for every value of `Sides`. A list of nodes without repeats begins with the left half of the
+/// outer face, lacks the right half, and has the left of each edge before a right that is in it. Then the edges with their
+/// left in the list and their right outside are a walk from source to sink, each once. While an inner face is outside,
+/// some inner face outside has its whole left path on that walk. There is a sweep, and the dual has no cycle.
+pub fn boundary(sides: &Sides)
+    ensures boundary { BoundaryLaw sides.now }
+    ensures sweep { SweepLaw sides.now }
+{
+    sides.facts();
+}
+
+/// Of two different objects, vertices or edges, exactly one of four holds, for every value of `Sides`: one is below the
+/// other, or above it, or left of it, or right of it.
+pub fn trichotomy(sides: &Sides)
+    ensures { Trichotomy sides.now }
+{
+    sides.facts();
+}

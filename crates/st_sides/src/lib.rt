@@ -3,3 +3,6 @@
 #![tactic(auto)]
 
 pub mod laws;
+mod sides;
+
+pub use sides::Sides;

@@ -1,0 +1,11 @@
+use Rattle.std.proofs.Common.{◌*◌}
+use Rattle.st_sides.specs.Sides.{SidesValue, outs}
+use Rattle.st_sides.specs.LocalSides.{first}
+use Rattle.st_sides.specs.SidesOf.{told_graph}
+use Rattle.st_sides.proofs.SweptLemmas.{trichotomy_law}
+use Rattle.st_sides.proofs.laws.trichotomy.Goals as goal
+
+pub returns : goal.returns
+returns c =
+    let x : SidesValue = c.args.sides.now in
+    trichotomy_law (told_graph x) x.source x.sink (2 * first (outs x x.source)) x c.facts.ensures.own.planar c.facts.ensures.own.sides
