@@ -15,6 +15,7 @@ pub mod OwnLemmas
 pub mod PathLemmas
 pub mod PlaceLists
 pub mod ReorderLemmas
+pub mod RoundLemmas
 pub mod RunLemmas
 pub mod SearchLemmas
 pub mod SideLemmas

@@ -7,6 +7,7 @@ pub mod Laws
 pub mod LocalSides
 pub mod Normal
 pub mod Objects
+pub mod Rounds
 pub mod Runs
 pub mod Sides
 pub mod SidesOf

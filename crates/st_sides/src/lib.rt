@@ -3,6 +3,7 @@
 #![tactic(auto)]
 
 pub mod laws;
+mod runs;
 mod sides;
 
 pub use sides::Sides;
