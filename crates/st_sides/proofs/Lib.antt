@@ -20,6 +20,7 @@ pub mod RunLemmas
 pub mod SearchLemmas
 pub mod SideLemmas
 pub mod StarLemmas
+pub mod StartLemmas
 pub mod SweepLemmas
 pub mod SweptLemmas
 pub mod TotalLemmas

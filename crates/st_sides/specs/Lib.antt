@@ -1,6 +1,7 @@
 pub mod Conditions
 pub mod Corners
 pub mod Example
+pub mod Filled
 pub mod GraphWalks
 pub mod Held
 pub mod Laws

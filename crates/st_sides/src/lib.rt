@@ -3,7 +3,9 @@
 #![tactic(auto)]
 
 pub mod laws;
+mod nodes;
 mod runs;
 mod sides;
+mod starts;
 
 pub use sides::Sides;

@@ -31,7 +31,7 @@ fn turn(map: &Map, d: Dart) -> Dart
 }
 
 /// The next end of the face, or the clockwise next at the vertex.
-fn step(map: &Map, face: bool, d: Dart) -> Dart
+pub(crate) fn step(map: &Map, face: bool, d: Dart) -> Dart
     requires { d.0 < darts map.now.graph }
     ensures value { result.0 ≡ round map.now.graph face d.0 }
     ensures within { result.0 < darts map.now.graph }
@@ -61,7 +61,7 @@ fn goes_on(out: bool, start: Dart, end: Dart) -> bool
 }
 
 /// The edges of the ends of one kind from `start` on, and the end that comes after them.
-fn run(
+pub(crate) fn run(
     alloc: Global,
     map: &Map,
     face: bool,
