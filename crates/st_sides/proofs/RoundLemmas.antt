@@ -1,15 +1,15 @@
 -- How far a run goes.
-use Rattle.std.proofs.Common.{◌≡◌, ◌≢◌, ℕ, zero, suc, ◌+◌, ◌-◌, ◌<◌, ◌≤◌, inl, inr, Bool, true, false, List, [], ◌∷◌, ◌++◌, length, map, refl, sym, ap, ◌∙◌, arith}
+use Rattle.std.proofs.Common.{◌≡◌, ◌≢◌, ℕ, zero, suc, ◌+◌, ◌-◌, ◌<◌, ◌≤◌, inl, inr, Bool, true, false, List, [], ◌∷◌, ◌++◌, length, map, refl, sym, ap, ◌∙◌, subst, reverse, arith}
 use Rattle.std.proofs.lemmas.Bool.{cases_lt, both_ways}
-use Rattle.std.proofs.lemmas.List.{length-append, map-append}
+use Rattle.std.proofs.lemmas.List.{length-append, map-append, reverse-append}
 use Rattle.st_ids.specs.Ends.{is_out, edge_of}
 use Rattle.st_ids.specs.EdgeNumbers.{numbers}
 use Rattle.st_ids.specs.declared.ids.EdgeId.{EdgeId}
 use Rattle.st_map.specs.Orbits.{iterate, Permutes}
-use Rattle.st_map.proofs.OrbitLemmas.{least_period, iterate-add, steps}
-use Rattle.st_sides.specs.Rounds.{IsRun}
-use Rattle.st_sides.specs.Stretches.{forward}
-use Rattle.st_sides.proofs.RunLemmas.{Runs, forward-push}
+use Rattle.st_map.proofs.OrbitLemmas.{least_period, iterate-add, steps, turn_apart}
+use Rattle.st_sides.specs.Rounds.{IsRun, HasParts, AreParts}
+use Rattle.st_sides.specs.Stretches.{forward, backward}
+use Rattle.st_sides.proofs.RunLemmas.{Runs, forward-push, backward-reverse}
 
 pub run_goes : (f : ℕ → ℕ) (b : Bool) (x j n : ℕ) → IsRun f b x n → 0 < j → j ≤ n → is_out (iterate j f x) ≡ b → iterate j f x ≢ x → j < n
 run_goes f b x j n r pos l o ne = elim (cases_lt j n) [
@@ -69,4 +69,39 @@ outs_run f x k p r = record {
     | inl l ↦ inl (λ o. both_ways (is_out (iterate k f x)) (r.then k (omega arith) l) o)
     | inr l ↦ let e : k ≡ p = omega (arith, r.more) in inr (omega (arith, r.some), steps f x k p e ∙ r.back)
   ];
+}
+
+pub ins_run : (m : ℕ) (f : ℕ → ℕ) → Permutes m f → (x k p : ℕ) → x < m → Runs f x k p → IsRun f false (iterate k f x) (p - k)
+ins_run m f perm x k p lx r =
+    let back : iterate (p - k) f (iterate k f x) ≡ x = sym (iterate-add (p - k) k f x) ∙ steps f x ((p - k) + k) p (omega (arith, r.more)) ∙ r.back in
+    record {
+      alike = λ j l. ap is_out (sym (iterate-add j k f x)) ∙ r.then (j + k) (omega arith) (omega arith);
+      apart = λ j pos l e. turn_apart m f perm x p lx r.apart k (j + k) (omega arith) (omega arith) (sym e ∙ sym (iterate-add j k f x));
+      stops = elim (cases_lt 0 k) [
+        | inl l ↦ inl (λ o. both_ways (is_out x) (ap is_out (sym back) ∙ o) (r.first 0 l))
+        | inr l ↦
+            let z : k ≡ 0 = omega arith in
+            inr (omega (arith, r.some), back ∙ steps f x 0 k (sym z))
+      ];
+    }
+
+-- what the two runs are, where their lengths are known
+pub has_parts : (m : ℕ) (f : ℕ → ℕ) → Permutes m f → (x k p : ℕ) → x < m → Runs f x k p → HasParts f x
+has_parts m f perm x k p lx r = record { k = k; n = p - k; outs_run = outs_run f x k p r; ins_run = ins_run m f perm x k p lx r }
+
+numbers-reverse : (xs : List EdgeId) → numbers (reverse xs) ≡ reverse (numbers xs)
+numbers-reverse [] = refl
+numbers-reverse (x ∷ xs) =
+    ap numbers (reverse-append (x ∷ []) xs) ∙ map-append (λ (z : EdgeId). z.0) (reverse xs) (x ∷ []) ∙ ap (λ z. z ++ x.0 ∷ []) (numbers-reverse xs)
+    ∙ sym (reverse-append (x.0 ∷ []) (numbers xs))
+
+pub parts_are : (f : ℕ → ℕ) (x y : ℕ) (outs ins : List ℕ) (os is : List EdgeId) → outs ≡ numbers os → ins ≡ numbers (reverse is)
+    → ((n : ℕ) → IsRun f true x n → numbers os ≡ forward n f x) → ((n : ℕ) → IsRun f true x n → y ≡ iterate n f x) → ((n : ℕ) → IsRun f false y n → numbers is ≡ forward n f y)
+    → AreParts f x outs ins y
+parts_are f x y outs ins os is p q a e b = record {
+  outs_are = λ k r. p ∙ a k r;
+  stop_is = e;
+  ins_are = λ k n r w.
+      let s : IsRun f false y n = subst (λ z. IsRun f false z n) (sym (e k r)) w in
+      q ∙ numbers-reverse is ∙ ap (λ (z : List ℕ). reverse z) (b n s ∙ ap (λ z. forward n f z) (e k r)) ∙ sym (backward-reverse n f (iterate k f x));
 }

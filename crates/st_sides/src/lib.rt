@@ -4,6 +4,7 @@
 
 pub mod laws;
 mod nodes;
+mod parts;
 mod runs;
 mod sides;
 mod starts;
