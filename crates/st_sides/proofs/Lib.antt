@@ -10,6 +10,7 @@ pub mod LawLemmas
 pub mod LocalLemmas
 pub mod MeaningLemmas
 pub mod NodeLemmas
+pub mod NodeStartLemmas
 pub mod NormalLemmas
 pub mod OwnLemmas
 pub mod PathLemmas

@@ -8,6 +8,7 @@ use Rattle.st_map.specs.Embedded.{Embedded, darts, at, next, phi, face, faces}
 use Rattle.st_test.specs.Planar.{IsPlanarSt}
 use Rattle.st_sides.specs.Stretches.{forward, backward}
 use Rattle.st_sides.specs.Conditions.{AreOuts, AreIns, IsSidePath, AreSides, left_face, right_face, node}
+use Rattle.st_sides.specs.NodeSides.{NodeSides}
 use Rattle.st_sides.proofs.FaceRuns.{face_runs, outer_low, outer_high}
 use Rattle.st_sides.proofs.StarLemmas.{Star, star, outs_are, ins_are}
 use Rattle.st_sides.proofs.NodeLemmas.{faces-positive, node-met, node-same, left_face-outer, left_face-inner, right_face-outer, right_face-inner, left_face-0, left_face-at, right_face-last, right_face-at}
@@ -24,15 +25,6 @@ choose {A} n P other c = (λ k. pick k (cases_lt k n), λ k l. picked k l (cases
     picked : (k : ℕ) → k < n → (w : (k < n) ⊎ (n ≤ k)) → P k (pick k w)
     picked k l (inl m) = (c k m).1
     picked k l (inr m) = absurd (omega arith)
-
--- the two vertices and the two paths of a node
-pub record NodeSides (g : Embedded) (s t outer f low high : ℕ) (left right : List ℕ) : Type 0 where
-  pub left_is : 0 < f → IsSidePath g (λ e. right_face g outer e ≡ f) low high left
-  pub right_is : f < faces g → IsSidePath g (λ e. left_face g outer e ≡ f) low high right
-  pub left_none : f ≡ 0 → left ≡ []
-  pub right_none : f ≡ faces g → right ≡ []
-  pub first : f ≡ 0 → (low ≡ s) × (high ≡ t)
-  pub last : f ≡ faces g → (low ≡ s) × (high ≡ t)
 
 module _ (g : Embedded) (s t outer : ℕ) (st : IsPlanarSt g s t outer) where
   pub node_sides : (f : ℕ) → f ≤ faces g → (a : ℕ × ℕ × List ℕ × List ℕ) × NodeSides g s t outer f a.0 a.1 a.2 a.3

@@ -41,7 +41,7 @@ module _ (g : Embedded) (s t outer : ℕ) (st : IsPlanarSt g s t outer) where
   face-same d e l so = root-same (darts g) (phi g) (perm_st g s t outer st) d e l so
 
   -- all ends at one vertex are alike
-  one_kind : (u : Bool) (x : ℕ) → x < darts g → ((d : ℕ) → d < darts g → at g d ≡ at g x → is_out d ≡ u) → (j : ℕ) → is_out (iterate j (next g) x) ≡ u
+  pub one_kind : (u : Bool) (x : ℕ) → x < darts g → ((d : ℕ) → d < darts g → at g d ≡ at g x → is_out d ≡ u) → (j : ℕ) → is_out (iterate j (next g) x) ≡ u
   one_kind u x l h j = h (iterate j (next g) x) (iterate-stays (darts g) (next g) next_st j x l) (at-iterate g st.orders (at_st g s t outer st) j x l)
 
   pub star : (v : ℕ) → v < g.vertices → Star g s t outer v

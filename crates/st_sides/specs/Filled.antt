@@ -4,8 +4,9 @@
 --   node_number outer half label   the node of a face with this number
 --   key g face d              the number of the end's face, or its vertex
 --   AreStarts g face m xs     for each end in below m that leads to an end out, xs has such an end out under the same key
+--   label_of f outer count   the number of the face of node f
 --   Begins g s t outer v x    x is the end at v where its list of edges out begins, or at the sink that of its edges in
-use Rattle.std.specs.Prelude.{ℕ, ◌≡◌, ◌≢◌, ◌⊎◌, ◌+◌, ◌<◌, ◌==◌, Bool, true, false, cond, nat_lt, List, length, slice_index, slice_index_or}
+use Rattle.std.specs.Prelude.{ℕ, ◌≡◌, ◌≢◌, ◌⊎◌, ◌+◌, ◌-◌, ◌<◌, ◌==◌, ◌||◌, Bool, true, false, cond, nat_lt, List, length, slice_index, slice_index_or}
 use Rattle.st_ids.specs.Ends.{is_out}
 use Rattle.st_map.specs.Embedded.{Embedded, at, darts, face, faces, next}
 use Rattle.st_test.specs.FaceNumbers.{orbit_number}
@@ -49,3 +50,7 @@ pub record Begins (g : Embedded) (s t outer v x : ℕ) : Type 0 where
   pub at_v : at g x ≡ v
   pub inner : v ≢ s → v ≢ t → (c : ℕ) × (c < darts g) × (is_out c ≡ false) × (next g c ≡ x) × (is_out x ≡ true)
   pub pole : (v ≡ s) ⊎ (v ≡ t) → face g x ≡ face g outer
+
+-- the number of the face of node f, where there are count faces and the outer one has the number outer
+abbrev pub label_of : ℕ → ℕ → ℕ → ℕ
+label_of f outer count = cond ((f == 0) || (f == count)) outer (cond (nat_lt (f - 1) outer) (f - 1) f)

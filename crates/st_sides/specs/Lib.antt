@@ -6,6 +6,7 @@ pub mod GraphWalks
 pub mod Held
 pub mod Laws
 pub mod LocalSides
+pub mod NodeSides
 pub mod Normal
 pub mod Objects
 pub mod Rounds

@@ -5,8 +5,10 @@
 pub mod laws;
 mod nodes;
 mod parts;
+mod paths;
 mod runs;
 mod sides;
+mod stars;
 mod starts;
 
 pub use sides::Sides;
