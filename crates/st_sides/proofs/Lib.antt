@@ -1,3 +1,4 @@
+pub mod BesideLemmas
 pub mod BoundaryLemmas
 pub mod CornerLemmas
 pub mod ExampleLemmas
@@ -10,6 +11,7 @@ pub mod LawLemmas
 pub mod LocalLemmas
 pub mod MeaningLemmas
 pub mod NodeLemmas
+pub mod NodeListLemmas
 pub mod NodeStartLemmas
 pub mod NormalLemmas
 pub mod OwnLemmas

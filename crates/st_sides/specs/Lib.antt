@@ -1,3 +1,4 @@
+pub mod Beside
 pub mod Conditions
 pub mod Corners
 pub mod Example

@@ -2,6 +2,8 @@
 //! as definitions and laws; no function computes sides yet.
 #![tactic(auto)]
 
+mod beside;
+mod copying;
 pub mod laws;
 mod nodes;
 mod parts;

@@ -72,3 +72,37 @@ fn node_sides(
     let right = unless(alloc, f == count_faces(graph), outs);
     Ok((vertex_of(map, start).0, vertex_of(map, stop).0, left, right))
 }
+
+/// The lowest and highest vertices and the paths of all nodes.
+#[derive(Drop)]
+pub(crate) struct NodeLists {
+    pub(crate) lows: IdVec<FaceId, u32>,
+    pub(crate) highs: IdVec<FaceId, u32>,
+    pub(crate) lefts: PathList,
+    pub(crate) rights: PathList,
+}
+
+/// The lowest and highest vertex and the paths of each node.
+pub(crate) fn node_lists(alloc: Global, graph: &StGraph) -> Result<NodeLists, NoMemory>
+    ensures { IfOk result (λ r. AreNodeLists graph.now.map.graph graph.now.source graph.now.sink graph.now.outer (faces graph.now.map.graph + 1) r.lows r.highs r.lefts r.rights) }
+{
+    let starts = list_starts(alloc, graph, true)?;
+    let mut lows = IdVec::new(alloc);
+    let mut highs = IdVec::new(alloc);
+    let mut lefts = PathList::new(alloc);
+    let mut rights = PathList::new(alloc);
+    for f in 0..count_faces(graph) + 1 {
+        let start = node_start(graph, &starts, f);
+        let (low, high, left, right) = node_sides(alloc, graph, f, start)?;
+        lows.push(low)?;
+        highs.push(high)?;
+        lefts.push(left)?;
+        rights.push(right)?;
+    }
+    Ok(NodeLists {
+        lows,
+        highs,
+        lefts,
+        rights,
+    })
+}

@@ -21,7 +21,7 @@ fn is_on(graph: &StGraph, face: OrbitId, d: Dart, v: VertexId) -> bool
 }
 
 /// Whether the vertex is the source or the sink.
-fn is_pole(graph: &StGraph, v: VertexId) -> bool
+pub(crate) fn is_pole(graph: &StGraph, v: VertexId) -> bool
     ensures { IsTrue result ↔ ((v.0 ≡ graph.now.source) ⊎ (v.0 ≡ graph.now.sink)) }
 {
     v.0 == graph.source().0 || v.0 == graph.sink().0
