@@ -1,5 +1,5 @@
 -- The edges out of a vertex that is no pole are some, and are read from its list.
-use Rattle.std.proofs.Common.{◌≡◌, ◌≢◌, ℕ, ◌<◌, ◌⊎◌, inl, inr, true, List, [], length, map, get_or, sym, ap, ◌∙◌, subst, arith}
+use Rattle.std.proofs.Common.{◌≡◌, ◌≢◌, ℕ, ◌-◌, ◌<◌, ◌⊎◌, inl, inr, true, List, [], length, map, get_or, sym, ap, ◌∙◌, subst, arith}
 use Rattle.std.specs.Prelude.{Some, slice_get}
 use Rattle.std.proofs.lemmas.List.{length-map, get_or-map}
 use Rattle.std.proofs.lemmas.Option.{get_or_from_slice_get}
@@ -11,6 +11,7 @@ use Rattle.st_map.proofs.EndLemmas.{at-out, edge_of-below}
 use Rattle.st_test.specs.Planar.{IsPlanarSt}
 use Rattle.st_sides.specs.Conditions.{AreOuts}
 use Rattle.st_sides.specs.Filled.{IsFilled}
+use Rattle.st_sides.specs.LocalSides.{first, last}
 use Rattle.st_sides.proofs.FaceRuns.{end_out}
 
 abbrev pub none_edge : EdgeId
@@ -32,3 +33,9 @@ edge_there g s t outer st os h v lv np list q =
           let e : (get_or list i none_edge).0 ≡ get_or es i 0 = sym (get_or-map (λ (z : EdgeId). z.0) list i none_edge 0 l) ∙ ap (λ (z : List ℕ). get_or z i 0) (sym is) in
           (e, subst (λ z. z < edges g) (sym e) (a.has.only i (omega (arith, len))).0),
     )
+
+pub some_end : (g : Embedded) (s t outer : ℕ) → IsPlanarSt g s t outer → (v : ℕ) → v < g.vertices → v ≢ t → (es : List ℕ) → AreOuts g s outer v es → (first es < edges g) × (last es < edges g)
+some_end g s t outer st v lv nt es a =
+    let d : (d : ℕ) × (d < darts g) × (at g d ≡ v) × (is_out d ≡ true) = end_out g s t outer st v lv nt in
+    let r : (i : ℕ) × (i < length es) × (get_or es i 0 ≡ edge_of d.0) = a.has.each (edge_of d.0) (edge_of-below (edges g) d.0 d.1) (sym (at-out g d.0 d.3) ∙ d.2) in
+    ((a.has.only 0 (omega (arith, r.1))).0, (a.has.only (length es - 1) (omega (arith, r.1))).0)

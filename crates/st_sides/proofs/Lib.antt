@@ -14,6 +14,7 @@ pub mod NodeLemmas
 pub mod NodeListLemmas
 pub mod NodeStartLemmas
 pub mod NormalLemmas
+pub mod OfLemmas
 pub mod OwnLemmas
 pub mod PathLemmas
 pub mod PlaceLists

@@ -18,7 +18,7 @@ new_entry {A} xs ys x d i q e = ap (λ (z : List A). get_or z i d) q ∙ ap (λ 
 moved : (g : Embedded) (s t outer f f' a a' b b' : ℕ) (c c' d d' : List ℕ) → f' ≡ f → a' ≡ a → b' ≡ b → c' ≡ c → d' ≡ d → NodeSides g s t outer f a b c d → NodeSides g s t outer f' a' b' c' d'
 moved g s t outer f f' a a' b b' c c' d d' z p q r w n =
     subst (λ k. NodeSides g s t outer k a' b' c' d') (sym z) (subst (λ k. NodeSides g s t outer f k b' c' d') (sym p)
-      (subst (λ k. NodeSides g s t outer f a k c' d') (sym q) (subst (λ k. NodeSides g s t outer f a b k d') (sym r) (subst (λ k. NodeSides g s t outer f a b c k) (sym w) n))))
+    (subst (λ k. NodeSides g s t outer f a k c' d') (sym q) (subst (λ k. NodeSides g s t outer f a b k d') (sym r) (subst (λ k. NodeSides g s t outer f a b c k) (sym w) n))))
 
 pub nodes_more : (g : Embedded) (s t outer n : ℕ) (lows lows' highs highs' : List ℕ) (lefts lefts' rights rights' : List (List ℕ)) (a b : ℕ) (c d : List ℕ)
     → AreNodeLists g s t outer n lows highs lefts rights → NodeSides g s t outer n a b c d

@@ -39,8 +39,8 @@ module _ (g : Embedded) (s t outer : ℕ) (st : IsPlanarSt g s t outer) where
   counted_after : (k : ℕ) → face g outer < k → count_below k (is_least g) ≡ count_below k (is_inner_face g outer) + 1
   counted_after k l =
       count_less k (is_least g) (is_inner_face g outer) (face g outer) l (root_of outer st.outer_in)
-        (and_right (eqb (face g (face g outer)) (face g outer)) (not (eqb (face g outer) (face g outer))) (not_from_true (eqb (face g outer) (face g outer)) (eq-eqb (face g outer) (face g outer) refl)))
-        kept
+      (and_right (eqb (face g (face g outer)) (face g outer)) (not (eqb (face g outer) (face g outer))) (not_from_true (eqb (face g outer) (face g outer)) (eq-eqb (face g outer) (face g outer) refl)))
+      kept
 
   -- the number of an inner face and its node
   pub node_label : (d : ℕ) → d < darts g → face g d ≢ face g outer
@@ -62,20 +62,20 @@ module _ (g : Embedded) (s t outer : ℕ) (st : IsPlanarSt g s t outer) where
       let rest : ℕ = cond (nat_lt (f - 1) o) (f - 1) f in
       elim (cases_eq f 0) [
         | inl z ↦ (
-            outer,
-            st.outer_in,
-            sym (cond-true (eqb f 0 || eqb f (faces g)) o rest (or_left (eqb f 0) (eqb f (faces g)) (eq-eqb f 0 z))),
-            λ _. refl,
-            λ a _. absurd (omega arith),
-          )
+          outer,
+          st.outer_in,
+          sym (cond-true (eqb f 0 || eqb f (faces g)) o rest (or_left (eqb f 0) (eqb f (faces g)) (eq-eqb f 0 z))),
+          λ _. refl,
+          λ a _. absurd (omega arith),
+        )
         | inr nz ↦ elim (cases_eq f (faces g)) [
           | inl z ↦ (
-              outer,
-              st.outer_in,
-              sym (cond-true (eqb f 0 || eqb f (faces g)) o rest (or_right (eqb f 0) (eqb f (faces g)) (eq-eqb f (faces g) z))),
-              λ _. refl,
-              λ _ b. absurd (omega arith),
-            )
+            outer,
+            st.outer_in,
+            sym (cond-true (eqb f 0 || eqb f (faces g)) o rest (or_right (eqb f 0) (eqb f (faces g)) (eq-eqb f (faces g) z))),
+            λ _. refl,
+            λ _ b. absurd (omega arith),
+          )
           | inr nf ↦
               let d : (d : ℕ) × (d < darts g) × (face g d ≢ face g outer) × (node g outer d ≡ f) = node-met g s t outer st f (omega arith) (omega arith) in
               let into : label_of f o (faces g) ≡ rest = cond-false (eqb f 0 || eqb f (faces g)) o rest (or_from (eqb f 0) (eqb f (faces g)) (ne_eqb f 0 nz) (ne_eqb f (faces g) nf)) in

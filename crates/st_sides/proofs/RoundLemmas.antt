@@ -57,7 +57,7 @@ run_grows f x j d e old new q n h w at =
     let len : length new ≡ j + 1 = ap (λ (z : List EdgeId). length z) q ∙ length-append old (e ∷ []) ∙ ap (λ z. z + 1) (sym n) in (
       len,
       ap numbers q ∙ map-append (λ (z : EdgeId). z.0) old (e ∷ []) ∙ ap (λ es. es ++ e.0 ∷ []) w
-      ∙ ap (λ z. forward j f x ++ z ∷ []) (h ∙ ap edge_of at) ∙ sym (forward-push j f x) ∙ ap (λ z. forward z f x) (sym len),
+          ∙ ap (λ z. forward j f x ++ z ∷ []) (h ∙ ap edge_of at) ∙ sym (forward-push j f x) ∙ ap (λ z. forward z f x) (sym len),
     )
 
 -- The ends out of a star or of a face are a run, and so are the ends in.

@@ -153,12 +153,34 @@ module _ (g : Embedded) (s t outer : ℕ) (st : IsPlanarSt g s t outer) where
   pub star_from : (v x : ℕ) → Begins g s t outer v x → (w : Star g s t outer v) × (w.x ≡ x)
   star_from v x b =
       let q : (p : ℕ) × (0 < p) × (p ≤ darts g) × (iterate p (next g) x ≡ x) × ((j : ℕ) → 0 < j → j < p → iterate j (next g) x ≡ x → ⊥) =
-        least_period (darts g) (next g) (next_st g s t outer st) x b.there in
+      least_period (darts g) (next g) (next_st g s t outer st) x b.there in
       elim (cases_eq v s) [
         | inl es ↦ (
+          record {
+            x = x;
+            k = q.0;
+            p = q.0;
+            x_in = b.there;
+            at_x = b.at_v;
+            runs = record {
+              some = q.1;
+              more = omega arith;
+              back = q.3;
+              apart = q.4;
+              first = λ j lj. one_kind g s t outer st true x b.there (λ d ld e. out_at_s g s t outer st d ld (e ∙ b.at_v ∙ es)) j;
+              then = λ j lj lk. absurd (omega arith);
+            };
+            inner = λ n _. absurd (n es);
+            at_s = λ _. (refl, b.pole (inl es));
+            at_t = λ et. absurd (poles_apart g s t outer st (sym es ∙ et));
+          },
+          refl,
+        )
+        | inr ns ↦ elim (cases_eq v t) [
+          | inl et ↦ (
             record {
               x = x;
-              k = q.0;
+              k = 0;
               p = q.0;
               x_in = b.there;
               at_x = b.at_v;
@@ -167,37 +189,15 @@ module _ (g : Embedded) (s t outer : ℕ) (st : IsPlanarSt g s t outer) where
                 more = omega arith;
                 back = q.3;
                 apart = q.4;
-                first = λ j lj. one_kind g s t outer st true x b.there (λ d ld e. out_at_s g s t outer st d ld (e ∙ b.at_v ∙ es)) j;
-                then = λ j lj lk. absurd (omega arith);
+                first = λ j lj. absurd (omega arith);
+                then = λ j lj lk. one_kind g s t outer st false x b.there (λ d ld e. in_at_t g s t outer st d ld (e ∙ b.at_v ∙ et)) j;
               };
-              inner = λ n _. absurd (n es);
-              at_s = λ _. (refl, b.pole (inl es));
-              at_t = λ et. absurd (poles_apart g s t outer st (sym es ∙ et));
+              inner = λ _ n. absurd (n et);
+              at_s = λ es. absurd (ns es);
+              at_t = λ _. (refl, b.pole (inr et));
             },
             refl,
           )
-        | inr ns ↦ elim (cases_eq v t) [
-          | inl et ↦ (
-              record {
-                x = x;
-                k = 0;
-                p = q.0;
-                x_in = b.there;
-                at_x = b.at_v;
-                runs = record {
-                  some = q.1;
-                  more = omega arith;
-                  back = q.3;
-                  apart = q.4;
-                  first = λ j lj. absurd (omega arith);
-                  then = λ j lj lk. one_kind g s t outer st false x b.there (λ d ld e. in_at_t g s t outer st d ld (e ∙ b.at_v ∙ et)) j;
-                };
-                inner = λ _ n. absurd (n et);
-                at_s = λ es. absurd (ns es);
-                at_t = λ _. (refl, b.pole (inr et));
-              },
-              refl,
-            )
           | inr nt ↦
               let c : (c : ℕ) × (c < darts g) × (is_out c ≡ false) × (next g c ≡ x) × (is_out x ≡ true) = b.inner ns nt in
               let u : (k : ℕ) × (p : ℕ) × TwoRuns (next g) is_out (next g c.0) k p = vertex_runs_from g s t outer st c.0 c.1 c.2 (ap is_out c.3 ∙ c.4) in

@@ -20,11 +20,7 @@ fn end_edge(graph: &StGraph, outs: &PathList, v: VertexId, right: bool) -> EdgeI
 {
     let _ = graph.map();
     let list = outs.path(v.0);
-    if right {
-        list[list.len() - 1]
-    } else {
-        list[0]
-    }
+    if right { list[list.len() - 1] } else { list[0] }
 }
 
 /// The node on one side of a vertex: at the poles a half of the outer face, else that beside its last edge out on this

@@ -1,5 +1,5 @@
-//! The sides of a planar st-graph: what lies left and right of each edge and vertex, and the two paths of each face. So far
-//! as definitions and laws; no function computes sides yet.
+//! The sides of a planar st-graph: what lies left and right of each edge and vertex, and the two paths of each face, as laws
+//! and as a value that is computed in linear time.
 #![tactic(auto)]
 
 mod beside;

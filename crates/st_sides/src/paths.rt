@@ -25,7 +25,7 @@ fn label(f: u32, outer: u32, count: u32) -> u32
 }
 
 /// The number of faces, below 2^31.
-fn count_faces(graph: &StGraph) -> u32
+pub(crate) fn count_faces(graph: &StGraph) -> u32
     ensures value { result ≡ faces graph.now.map.graph }
     ensures few { result < 2 ^ 31 }
 {

@@ -36,11 +36,7 @@ pub(crate) fn step(map: &Map, face: bool, d: Dart) -> Dart
     ensures value { result.0 ≡ round map.now.graph face d.0 }
     ensures within { result.0 < darts map.now.graph }
 {
-    if face {
-        turn(map, d)
-    } else {
-        map.next_cw(d)
-    }
+    if face { turn(map, d) } else { map.next_cw(d) }
 }
 
 /// Appends an edge.

@@ -1,10 +1,18 @@
 //! The sides of a planar st-graph as a value, with its readers.
-ghost use Rattle.std.specs.Prelude.{◌≡◌, ◌<◌, ◌≤◌, ◌+◌, ◌^◌};
+ghost use Rattle.std.specs.Prelude.{◌≡◌, ◌<◌, ◌≤◌, ◌+◌, ◌^◌, IfOk};
 ghost use Rattle.st_ids.specs.EdgeNumbers.{numbers};
 ghost use Rattle.st_sides.specs.Held.{IsHeld};
+ghost use Rattle.st_sides.specs.SidesOf.{IsSidesOf};
 ghost use Rattle.st_sides.specs.Sides.{edge_count, edge_tail, edge_head, face_left, face_right, outs, ins, low, high, left_path, right_path, left_of, right_of};
 
-use st_ids::{Digraph, EdgeId, FaceId, IdVec, PathList, VertexId};
+use crate::beside::vertex_nodes;
+use crate::copying::digraph_of;
+use crate::nodes::edge_nodes;
+use crate::paths::{count_faces, node_lists};
+use crate::stars::stars;
+use st_ids::{Digraph, EdgeId, FaceId, IdVec, NoMemory, PathList, VertexId};
+use st_test::StGraph;
+use std::alloc::Global;
 use std::marker::Model;
 
 /// The sides of a planar st-graph: the nodes of its dual left and right of each edge and vertex, the edges out and in at
@@ -74,6 +82,40 @@ impl Model for Sides {
 }
 
 impl Sides {
+    /// The sides of an embedded planar st-graph.
+    ///
+    /// Errors: `NoMemory`.
+    /// Cost: O(V + E) time, and memory for each edge in four lists. Not proved.
+    pub fn of(alloc: Global, graph: &StGraph) -> Result<Sides, NoMemory>
+        ensures { IfOk result (λ x. IsSidesOf graph.now.map.graph graph.now.source graph.now.sink graph.now.outer x) }
+    {
+        let map = graph.map();
+        let last = count_faces(graph);
+        let edge_lefts = edge_nodes(alloc, graph, 0, 0)?;
+        let edge_rights = edge_nodes(alloc, graph, 1, last)?;
+        let (outs, ins) = stars(alloc, graph)?;
+        let nodes = node_lists(alloc, graph)?;
+        let vertex_lefts = vertex_nodes(alloc, graph, &outs, &edge_lefts, false, 0)?;
+        let vertex_rights = vertex_nodes(alloc, graph, &outs, &edge_rights, true, last)?;
+        let copy = digraph_of(alloc, map)?;
+        Ok(Sides {
+            graph: copy,
+            source: graph.source(),
+            sink: graph.sink(),
+            last: FaceId(last),
+            edge_lefts,
+            edge_rights,
+            outs,
+            ins,
+            lows: nodes.lows,
+            highs: nodes.highs,
+            left_paths: nodes.lefts,
+            right_paths: nodes.rights,
+            vertex_lefts,
+            vertex_rights,
+        })
+    }
+
     /// What is told are the sides of a planar st-graph, with an entry for each vertex, edge and node.
     pub fn facts(&self)
         ensures { IsHeld self.now }

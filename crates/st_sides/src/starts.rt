@@ -58,11 +58,7 @@ fn turns(d: Dart, to: Dart) -> bool
 }
 
 /// For each face, or each vertex, an end out that follows an end in, where there is one.
-pub(crate) fn list_starts(
-    alloc: Global,
-    graph: &StGraph,
-    face: bool,
-) -> Result<Vec<u32>, NoMemory>
+pub(crate) fn list_starts(alloc: Global, graph: &StGraph, face: bool) -> Result<Vec<u32>, NoMemory>
     ensures { IfOk result (λ v. AreStarts graph.now.map.graph face (darts graph.now.map.graph) v.items) }
 {
     let mut starts = Vec::new(alloc);

@@ -20,7 +20,7 @@ round-smaller c =
     let e : c.round.end.0 ≡ iterate j f x = c.round.invariant.end in
     let lt : j < n = run_goes f c.args.out x j n c.requires.some.1 c.round.invariant.some (c.round.invariant.far n c.requires.some.1) (ap is_out (sym e) ∙ w.0) (λ q. w.1 (e ∙ q)) in
     let more : length c.put-in-round.new.list.items ≡ j + 1 = (run_grows f x j c.round.end.0 c.edge-in-round.result c.round.list.items c.put-in-round.new.list.items
-      c.in_ok-put-2.ensures refl c.edge-in-round.ensures c.round.invariant.list e).0 in
+    c.in_ok-put-2.ensures refl c.edge-in-round.ensures c.round.invariant.list e).0 in
     omega (arith, few, lt, more)
 
 pub round-preserved : goal.round-preserved
@@ -31,13 +31,13 @@ round-preserved c =
     let w : (is_out c.round.end.0 ≡ c.args.out) × (c.round.end.0 ≢ x) = c.round-test.ensures.0 refl in
     let e : c.round.end.0 ≡ iterate j f x = c.round.invariant.end in
     let g : (length c.put-in-round.new.list.items ≡ j + 1) × (numbers c.put-in-round.new.list.items ≡ forward (length c.put-in-round.new.list.items) f x) =
-      run_grows f x j c.round.end.0 c.edge-in-round.result c.round.list.items c.put-in-round.new.list.items
-      c.in_ok-put-2.ensures refl c.edge-in-round.ensures c.round.invariant.list e in
+    run_grows f x j c.round.end.0 c.edge-in-round.result c.round.list.items c.put-in-round.new.list.items
+    c.in_ok-put-2.ensures refl c.edge-in-round.ensures c.round.invariant.list e in
     record {
       some = omega (arith, g.0);
       far = λ n r.
-        let lt : j < n = run_goes f c.args.out x j n r c.round.invariant.some (c.round.invariant.far n r) (ap is_out (sym e) ∙ w.0) (λ q. w.1 (e ∙ q)) in
-        omega (arith, g.0, lt);
+          let lt : j < n = run_goes f c.args.out x j n r c.round.invariant.some (c.round.invariant.far n r) (ap is_out (sym e) ∙ w.0) (λ q. w.1 (e ∙ q)) in
+          omega (arith, g.0, lt);
       list = g.1;
       end = c.step-end-in-round.ensures.value ∙ ap f e ∙ steps f x (suc j) (length c.put-in-round.new.list.items) (omega (arith, g.0));
       there = c.step-end-in-round.ensures.within;

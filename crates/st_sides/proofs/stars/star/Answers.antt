@@ -11,21 +11,21 @@ use Rattle.st_sides.proofs.stars.star.Goals as goal
 pub parts-requires-clause-permutes : goal.parts-requires-clause-permutes
 parts-requires-clause-permutes c =
     subst (λ z. Permutes (darts z.graph) (next z.graph)) (sym c.map.ensures.value)
-      (next_st c.args.graph.now.map.graph c.args.graph.now.source c.args.graph.now.sink c.args.graph.now.outer c.map.ensures.planar)
+    (next_st c.args.graph.now.map.graph c.args.graph.now.source c.args.graph.now.sink c.args.graph.now.outer c.map.ensures.planar)
 
 pub parts-requires-clause-some : goal.parts-requires-clause-some
 parts-requires-clause-some c =
     subst (λ z. HasParts (next z.graph) c.args.start.0) (sym c.map.ensures.value)
-      (star_parts c.args.graph.now.map.graph c.args.graph.now.source c.args.graph.now.sink c.args.graph.now.outer c.map.ensures.planar c.args.v.0 c.args.start.0 c.requires)
+    (star_parts c.args.graph.now.map.graph c.args.graph.now.source c.args.graph.now.sink c.args.graph.now.outer c.map.ensures.planar c.args.v.0 c.args.start.0 c.requires)
 
 pub returns-clause-outs : goal.returns-clause-outs
 returns-clause-outs c =
     (star_lists c.args.graph.now.map.graph c.args.graph.now.source c.args.graph.now.sink c.args.graph.now.outer c.map.ensures.planar c.args.v.0 c.args.start.0 c.requires
-      c.in_ok-outs.outs c.in_ok-outs.ins c.in_ok-outs.field-0-2.0
-      (subst (λ z. AreParts (round z.graph false) c.args.start.0 c.in_ok-outs.outs c.in_ok-outs.ins c.in_ok-outs.field-0-2.0) c.map.ensures.value c.in_ok-outs.ensures.parts)).0
+    c.in_ok-outs.outs c.in_ok-outs.ins c.in_ok-outs.field-0-2.0
+    (subst (λ z. AreParts (round z.graph false) c.args.start.0 c.in_ok-outs.outs c.in_ok-outs.ins c.in_ok-outs.field-0-2.0) c.map.ensures.value c.in_ok-outs.ensures.parts)).0
 
 pub returns-clause-ins : goal.returns-clause-ins
 returns-clause-ins c =
     (star_lists c.args.graph.now.map.graph c.args.graph.now.source c.args.graph.now.sink c.args.graph.now.outer c.map.ensures.planar c.args.v.0 c.args.start.0 c.requires
-      c.in_ok-outs.outs c.in_ok-outs.ins c.in_ok-outs.field-0-2.0
-      (subst (λ z. AreParts (round z.graph false) c.args.start.0 c.in_ok-outs.outs c.in_ok-outs.ins c.in_ok-outs.field-0-2.0) c.map.ensures.value c.in_ok-outs.ensures.parts)).1
+    c.in_ok-outs.outs c.in_ok-outs.ins c.in_ok-outs.field-0-2.0
+    (subst (λ z. AreParts (round z.graph false) c.args.start.0 c.in_ok-outs.outs c.in_ok-outs.ins c.in_ok-outs.field-0-2.0) c.map.ensures.value c.in_ok-outs.ensures.parts)).1

@@ -17,10 +17,10 @@ loop-d-preserved c =
       | then-turns w ↦
           let t : (is_out m ≡ false) × (is_out c.step-to.result.0 ≡ true) = w.if-turns.ensures.0 refl in
           subst (λ (z : Vec ℕ Global). AreStarts g b (m + 1) z.items) (sym w.starts-is)
-            (starts_set g b m c.loop-d.starts.items c.loop-d.invariant c.step-to.result.0 w.key_of.result to w.key_of.ensures.value w.key_of.ensures.within t.0 t.1)
+          (starts_set g b m c.loop-d.starts.items c.loop-d.invariant c.step-to.result.0 w.key_of.result to w.key_of.ensures.value w.key_of.ensures.within t.0 t.1)
       | else-turns w ↦
           subst (λ (z : Vec ℕ Global). AreStarts g b (m + 1) z.items) (sym w.starts-is)
-            (starts_keep g b m c.loop-d.starts.items c.loop-d.invariant (λ i o. both (w.if-turns.ensures.1 (i, ap is_out to ∙ o))))
+          (starts_keep g b m c.loop-d.starts.items c.loop-d.invariant (λ i o. both (w.if-turns.ensures.1 (i, ap is_out to ∙ o))))
     ]
   where
     both : false ≡ true → ⊥
