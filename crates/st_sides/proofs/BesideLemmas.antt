@@ -1,12 +1,12 @@
 -- The edges out of a vertex that is no pole are some, and are read from its list.
-use Rattle.std.proofs.Common.{◌≡◌, ◌≢◌, ℕ, ◌-◌, ◌<◌, ◌⊎◌, inl, inr, true, List, [], length, map, get_or, sym, ap, ◌∙◌, subst, arith}
+use Rattle.std.proofs.Common.{◌≡◌, ◌≢◌, ℕ, ◌-◌, ◌<◌, ◌⊎◌, inr, true, List, [], length, get_or, sym, ap, ◌∙◌, subst, arith}
 use Rattle.std.specs.Prelude.{Some, slice_get}
 use Rattle.std.proofs.lemmas.List.{length-map, get_or-map}
 use Rattle.std.proofs.lemmas.Option.{get_or_from_slice_get}
 use Rattle.st_ids.specs.EdgeNumbers.{numbers}
 use Rattle.st_ids.specs.Ends.{is_out, edge_of}
 use Rattle.st_ids.specs.declared.ids.EdgeId.{EdgeId}
-use Rattle.st_map.specs.Embedded.{Embedded, at, darts, edges, tail}
+use Rattle.st_map.specs.Embedded.{Embedded, at, darts, edges}
 use Rattle.st_map.proofs.EndLemmas.{at-out, edge_of-below}
 use Rattle.st_test.specs.Planar.{IsPlanarSt}
 use Rattle.st_sides.specs.Conditions.{AreOuts}

@@ -1,7 +1,7 @@
 -- The nodes by the numbers of their faces, and their paths from where their faces begin.
-use Rattle.std.proofs.Common.{◌≡◌, ◌≢◌, ℕ, suc, ◌+◌, ◌-◌, ◌*◌, ◌<◌, ◌≤◌, ◌⊎◌, inl, inr, Bool, true, false, eqb, cond, ◌||◌, not, List, [], length, get_or, refl, sym, ap, ◌∙◌, subst, arith}
+use Rattle.std.proofs.Common.{◌≡◌, ◌≢◌, ℕ, ◌+◌, ◌-◌, ◌*◌, ◌<◌, ◌≤◌, ◌⊎◌, inl, inr, true, false, eqb, cond, ◌||◌, not, List, [], get_or, refl, sym, ap, ◌∙◌, subst, arith}
 use Rattle.std.specs.Prelude.{nat_lt}
-use Rattle.std.proofs.lemmas.Bool.{cases_eq, cases_lt, cases_order, cases_Bool, eq-eqb, ne_eqb, cond-true, cond-false, lt-ltb, le-ltb, or_left, or_right, or_from, and_from, and_left, and_right, not_from_true, not_from_false}
+use Rattle.std.proofs.lemmas.Bool.{cases_eq, cases_order, cases_Bool, eq-eqb, ne_eqb, cond-true, cond-false, lt-ltb, le-ltb, or_left, or_right, or_from, and_from, and_left, and_right, not_from_true, not_from_false}
 use Rattle.st_ids.specs.Ends.{is_out}
 use Rattle.st_map.specs.Counting.{bit, count_below}
 use Rattle.st_map.specs.Orbits.{iterate, Permutes, SameOrbit}
@@ -16,7 +16,7 @@ use Rattle.st_sides.specs.Rounds.{AreParts, HasParts, IsRun}
 use Rattle.st_sides.specs.Runs.{TwoRuns}
 use Rattle.st_sides.specs.Stretches.{forward, backward}
 use Rattle.st_sides.proofs.FaceRuns.{perm_st, face_runs, face_runs_from, outer_low, outer_high}
-use Rattle.st_sides.proofs.NodeLemmas.{count-over, face-below, face-face, faces-positive, node-met, node-same, same_orbit, left_face-outer, left_face-inner, right_face-outer, right_face-inner, left_face-0, left_face-at, right_face-last, right_face-at}
+use Rattle.st_sides.proofs.NodeLemmas.{count-over, face-face, node-met, node-same, same_orbit, left_face-outer, left_face-inner, right_face-outer, right_face-inner, left_face-0, left_face-at, right_face-last, right_face-at}
 use Rattle.st_sides.proofs.PathLemmas.{right_path_of, left_path_of, side_path_like}
 use Rattle.st_sides.proofs.RunLemmas.{Runs, from_two}
 use Rattle.st_sides.proofs.RoundLemmas.{outs_run, ins_run, has_parts}

@@ -1,5 +1,5 @@
 -- The lists that were computed are the sides of the graph.
-use Rattle.std.proofs.Common.{◌≡◌, ◌≢◌, ℕ, ◌+◌, ◌*◌, ◌^◌, ◌<◌, ◌≤◌, ◌⊎◌, inl, inr, true, false, List, [], length, get_or, refl, sym, ap, ◌∙◌, subst, arith}
+use Rattle.std.proofs.Common.{◌≡◌, ℕ, ◌+◌, ◌*◌, ◌^◌, ◌<◌, ◌≤◌, ◌⊎◌, inl, inr, true, false, List, [], get_or, refl, sym, ap, ◌∙◌, subst, arith}
 use Rattle.st_ids.specs.Graph.{Graph}
 use Rattle.st_map.specs.Embedded.{Embedded, bare, edges, faces}
 use Rattle.st_test.specs.FaceNumbers.{orbit_number}
@@ -7,7 +7,7 @@ use Rattle.st_test.specs.Planar.{IsPlanarSt}
 use Rattle.st_sides.specs.Beside.{IsBeside}
 use Rattle.st_sides.specs.Conditions.{AreOuts, AreIns, left_face, right_face}
 use Rattle.st_sides.specs.Filled.{IsFilled, node_number}
-use Rattle.st_sides.specs.Held.{HasSizes, IsHeld}
+use Rattle.st_sides.specs.Held.{IsHeld}
 use Rattle.st_sides.specs.LocalSides.{first, last}
 use Rattle.st_sides.specs.NodeSides.{NodeSides, AreNodeLists}
 use Rattle.st_sides.specs.Sides.{SidesValue, face_left, face_right, outs, ins, low, high, left_path, right_path, left_of, right_of}

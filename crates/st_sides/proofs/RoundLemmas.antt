@@ -1,5 +1,5 @@
 -- How far a run goes.
-use Rattle.std.proofs.Common.{◌≡◌, ◌≢◌, ℕ, zero, suc, ◌+◌, ◌-◌, ◌<◌, ◌≤◌, inl, inr, Bool, true, false, List, [], ◌∷◌, ◌++◌, length, map, refl, sym, ap, ◌∙◌, subst, reverse, arith}
+use Rattle.std.proofs.Common.{◌≡◌, ◌≢◌, ℕ, zero, suc, ◌+◌, ◌-◌, ◌<◌, ◌≤◌, inl, inr, Bool, true, false, List, [], ◌∷◌, ◌++◌, length, refl, sym, ap, ◌∙◌, subst, reverse, arith}
 use Rattle.std.proofs.lemmas.Bool.{cases_lt, both_ways}
 use Rattle.std.proofs.lemmas.List.{length-append, map-append, reverse-append}
 use Rattle.st_ids.specs.Ends.{is_out, edge_of}
@@ -8,7 +8,7 @@ use Rattle.st_ids.specs.declared.ids.EdgeId.{EdgeId}
 use Rattle.st_map.specs.Orbits.{iterate, Permutes}
 use Rattle.st_map.proofs.OrbitLemmas.{least_period, iterate-add, steps, turn_apart}
 use Rattle.st_sides.specs.Rounds.{IsRun, HasParts, AreParts}
-use Rattle.st_sides.specs.Stretches.{forward, backward}
+use Rattle.st_sides.specs.Stretches.{forward}
 use Rattle.st_sides.proofs.RunLemmas.{Runs, forward-push, backward-reverse}
 
 pub run_goes : (f : ℕ → ℕ) (b : Bool) (x j n : ℕ) → IsRun f b x n → 0 < j → j ≤ n → is_out (iterate j f x) ≡ b → iterate j f x ≢ x → j < n

@@ -1,11 +1,11 @@
 -- Where runs begin: the table, and what its entries are worth.
-use Rattle.std.proofs.Common.{◌≡◌, ◌≢◌, ℕ, zero, suc, ◌+◌, ◌-◌, ◌*◌, ◌<◌, ◌≤◌, ◌⊎◌, inl, inr, Bool, true, false, eqb, List, [], ◌∷◌, ◌++◌, length, get_or, refl, sym, ap, ◌∙◌, subst, arith}
+use Rattle.std.proofs.Common.{◌≡◌, ℕ, suc, ◌+◌, ◌-◌, ◌<◌, ◌≤◌, ◌⊎◌, inl, inr, Bool, true, false, List, [], ◌∷◌, ◌++◌, length, get_or, refl, sym, ap, ◌∙◌, subst, arith}
 use Rattle.std.proofs.Math.ListN.{set}
 use Rattle.std.proofs.lemmas.List.{get_or-set_same, get_or-set_other, length-set, length-append, get_or_append_left}
 use Rattle.std.proofs.Math.Seq.{get_or-append_seam}
 use Rattle.std.proofs.lemmas.Bool.{cases_eq, cases_lt, cases_order, eq-eqb}
 use Rattle.st_ids.specs.Ends.{is_out}
-use Rattle.st_map.specs.Orbits.{iterate, Permutes, SameOrbit}
+use Rattle.st_map.specs.Orbits.{iterate, Permutes}
 use Rattle.st_map.specs.Embedded.{Embedded, Touches, at, darts, face, faces, next, phi}
 use Rattle.st_map.proofs.OrbitLemmas.{iterate-stays, orbit-stays, steps, least_period}
 use Rattle.st_test.specs.FaceNumbers.{is_least, orbit_number}

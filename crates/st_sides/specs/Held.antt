@@ -1,7 +1,7 @@
 -- What a value of sides is known to be, wherever there is one.
 --   HasSizes x    the lists have an entry for each vertex, edge or node, and there are few nodes
 --   IsHeld x      x has the sides of the graph that it tells, and such lists
-use Rattle.std.specs.Prelude.{ℕ, ◌≡◌, ◌+◌, ◌<◌, ◌^◌, length}
+use Rattle.std.specs.Prelude.{◌≡◌, ◌+◌, ◌<◌, ◌^◌, length}
 use Rattle.st_sides.specs.Sides.{SidesValue}
 use Rattle.st_sides.specs.SidesOf.{IsOwn}
 

@@ -1,4 +1,4 @@
-use Rattle.std.proofs.Common.{◌≡◌, ℕ, ◌-◌, ◌<◌, ◌≤◌, List, [], length, get_or, sym, ap, ◌∙◌, arith}
+use Rattle.std.proofs.Common.{◌≡◌, ℕ, ◌-◌, ◌<◌, List, [], length, get_or, sym, ap, ◌∙◌, arith}
 use Rattle.st_map.specs.Embedded.{edges}
 use Rattle.st_sides.specs.Beside.{end_of}
 use Rattle.st_sides.proofs.BesideLemmas.{edge_there, none_edge}

@@ -1,4 +1,4 @@
-use Rattle.std.proofs.Common.{ℕ, [], get_or}
+use Rattle.std.proofs.Common.{[], get_or}
 use Rattle.st_sides.specs.Beside.{IsBeside}
 use Rattle.st_sides.proofs.StartLemmas.{filled_more}
 use Rattle.st_sides.proofs.beside.vertex_nodes.Goals as goal

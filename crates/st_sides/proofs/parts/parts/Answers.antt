@@ -1,8 +1,6 @@
-use Rattle.std.proofs.Common.{◌≡◌, ℕ, ◌<◌, List, reverse, sym, ap, subst, ◌∙◌, arith}
+use Rattle.std.proofs.Common.{ℕ, ◌<◌, sym, ap, subst, ◌∙◌}
 use Rattle.st_ids.specs.EdgeNumbers.{numbers}
-use Rattle.st_ids.specs.declared.ids.EdgeId.{EdgeId}
 use Rattle.st_map.specs.Embedded.{darts}
-use Rattle.st_map.specs.Orbits.{iterate}
 use Rattle.st_map.proofs.OrbitLemmas.{iterate-stays}
 use Rattle.st_sides.specs.Rounds.{round}
 use Rattle.st_sides.proofs.RoundLemmas.{parts_are}

@@ -1,6 +1,6 @@
-use Rattle.std.proofs.Common.{◌≡◌, ◌≢◌, ℕ, true, false, sym, ap, subst, ◌∙◌, eqb}
+use Rattle.std.proofs.Common.{true, sym, ap, subst, ◌∙◌}
 use Rattle.std.proofs.lemmas.Bool.{eq-eqb, ne_eqb}
-use Rattle.st_map.specs.Embedded.{Embedded, at, darts, phi}
+use Rattle.st_map.specs.Embedded.{at, darts, phi}
 use Rattle.st_map.specs.Orbits.{Permutes}
 use Rattle.st_sides.specs.Rounds.{AreParts, HasParts, round}
 use Rattle.st_sides.proofs.FaceRuns.{perm_st}

@@ -1,4 +1,4 @@
-use Rattle.std.proofs.Common.{◌≡◌, ℕ, ◌*◌, ◌<◌, refl, sym, subst, ◌∙◌, arith}
+use Rattle.std.proofs.Common.{◌≡◌, ℕ, ◌<◌, refl, sym, subst, ◌∙◌, arith}
 use Rattle.st_map.specs.Embedded.{Embedded, at, darts}
 use Rattle.st_test.specs.FaceNumbers.{orbit_number}
 use Rattle.st_sides.proofs.StartLemmas.{pole_begins, pole_met}

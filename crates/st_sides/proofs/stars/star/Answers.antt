@@ -1,8 +1,6 @@
-use Rattle.std.proofs.Common.{◌≡◌, ℕ, false, sym, subst}
-use Rattle.st_ids.specs.Ends.{is_out}
-use Rattle.st_map.specs.Embedded.{Embedded, darts, next}
+use Rattle.std.proofs.Common.{false, sym, subst}
+use Rattle.st_map.specs.Embedded.{darts, next}
 use Rattle.st_map.specs.Orbits.{Permutes}
-use Rattle.st_sides.specs.Conditions.{AreOuts, AreIns}
 use Rattle.st_sides.specs.Rounds.{AreParts, HasParts, round}
 use Rattle.st_sides.proofs.StarLemmas.{next_st}
 use Rattle.st_sides.proofs.StartLemmas.{star_parts, star_lists}

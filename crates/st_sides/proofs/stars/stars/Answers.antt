@@ -1,4 +1,4 @@
-use Rattle.std.proofs.Common.{◌≡◌, [], refl}
+use Rattle.std.proofs.Common.{[]}
 use Rattle.st_sides.specs.Conditions.{AreOuts, AreIns}
 use Rattle.st_sides.proofs.StartLemmas.{filled_more}
 use Rattle.st_sides.proofs.stars.stars.Goals as goal

@@ -1,4 +1,4 @@
-use Rattle.std.proofs.Common.{◌≡◌, []}
+use Rattle.std.proofs.Common.{[]}
 use Rattle.st_sides.specs.Conditions.{AreOuts, AreIns}
 use Rattle.st_sides.specs.Filled.{IsFilled}
 use Rattle.st_sides.proofs.stars.stars.Given as goal

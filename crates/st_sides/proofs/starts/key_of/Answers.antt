@@ -1,4 +1,4 @@
-use Rattle.std.proofs.Common.{◌≡◌, ◌<◌, true, sym, subst, ◌∙◌, arith}
+use Rattle.std.proofs.Common.{◌≡◌, ◌<◌, sym, subst, ◌∙◌}
 use Rattle.st_map.specs.Embedded.{Embedded, faces}
 use Rattle.st_test.specs.FaceNumbers.{orbit_number}
 use Rattle.st_sides.specs.Filled.{keys}

@@ -1,4 +1,4 @@
-use Rattle.std.proofs.Common.{◌≡◌, ℕ, ◌+◌, ◌<◌, Bool, true, false, Vec, Global, refl, sym, ap, subst, ◌∙◌, arith}
+use Rattle.std.proofs.Common.{◌≡◌, ℕ, ◌+◌, Bool, true, false, Vec, Global, refl, sym, ap, subst, ◌∙◌}
 use Rattle.st_ids.specs.Ends.{is_out}
 use Rattle.st_map.specs.Embedded.{Embedded}
 use Rattle.st_sides.specs.Filled.{AreStarts}

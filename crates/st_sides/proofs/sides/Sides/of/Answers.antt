@@ -1,5 +1,4 @@
-use Rattle.std.proofs.Common.{◌≡◌, ℕ, ◌+◌, ◌*◌, ◌^◌, ◌<◌, true, false, [], get_or, sym, ap, subst, ◌∙◌}
-use Rattle.st_ids.specs.Graph.{Graph}
+use Rattle.std.proofs.Common.{◌≡◌, ℕ, ◌+◌, ◌*◌, ◌^◌, ◌<◌, true, [], get_or, ap, subst, ◌∙◌}
 use Rattle.st_map.specs.Embedded.{Embedded, bare, edges, faces}
 use Rattle.st_test.specs.FaceNumbers.{orbit_number}
 use Rattle.st_sides.specs.Beside.{IsBeside}
