@@ -10,6 +10,8 @@ mod parts;
 mod paths;
 mod runs;
 mod sides;
+#[cfg(test)]
+mod sides_tests;
 mod stars;
 mod starts;
 
