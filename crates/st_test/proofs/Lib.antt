@@ -7,5 +7,6 @@ mod PlaceLemmas
 mod PoleLists
 mod StripGoing
 mod StripSteps
+mod TopologicalLemmas
 mod TracingLemmas
 mod VerdictLemmas

@@ -3,6 +3,7 @@ pub mod Cycle
 pub mod Poles
 pub mod PolesAnswer
 pub mod StripState
+pub mod Topological
 pub mod Stripping
 pub mod FaceNumbers
 pub mod Tracing

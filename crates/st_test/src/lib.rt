@@ -2,6 +2,7 @@
 //!
 //! `poles` goes through four tests in their order, and names the first that fails: at least two vertices, no cycle, one
 //! vertex without an edge in, one without an edge out. What each answer means stands in `specs/PolesAnswer.antt`.
+//! `topological_order` lists the vertices and edges of a graph without a cycle (`specs/Topological.antt`).
 //! `faces` numbers the faces of a map (`specs/FaceNumbers.antt`). `test` asks for Euler's formula and for both poles on
 //! the outer face, and makes an `StGraph`, whose type keeps that it is a planar st-graph (`specs/Planar.antt`).
 #![tactic(auto)]
@@ -15,6 +16,7 @@ mod graph;
 pub mod laws;
 mod orbits;
 mod stripping;
+mod topological;
 mod tracing;
 mod verdict;
 
@@ -22,6 +24,7 @@ pub use digraph_fault::{DigraphFault, Poles};
 pub use digraph_tests::poles;
 pub use graph::StGraph;
 pub use orbits::Faces;
+pub use topological::{TopologicalOrder, order_arcs, topological_order};
 pub use tracing::faces;
 pub use verdict::{EmbedFault, test};
 
@@ -87,6 +90,34 @@ mod tests {
         for (n, ends, text) in rows {
             let graph = digraph(alloc, n, ends)?;
             assert_eq!(rt; told(alloc, &graph)?.as_str(), text);
+        }
+        Ok(())
+    }
+
+    fn ordered(alloc: Global, n: u32, ends: &[(u32, u32)]) -> Result<String, DigraphFault> {
+        let graph = digraph(alloc, n, ends)?;
+        poles(alloc, &graph)?;
+        let order = topological_order(alloc, &graph)?;
+        let mut text = String::new(alloc);
+        for v in order.vertices() {
+            text = format!(in alloc; "{text}{} ", v.0)?;
+        }
+        for e in order.edges() {
+            text = format!(in alloc; "{text}:{}", e.0)?;
+        }
+        Ok(text)
+    }
+
+    #[test]
+    fn orders_vertices_and_edges(rt: HostRuntime) -> Result<(), Fail> {
+        let alloc = rt.alloc();
+        let rows: [(u32, &[(u32, u32)], &str); 3] = [
+            (4, &[(0, 1), (2, 0), (3, 2)], "3 2 0 1 :2:1:0"),
+            (3, &[(1, 0), (2, 1)], "2 1 0 :1:0"),
+            (2, &[(1, 0)], "1 0 :0"),
+        ];
+        for (n, ends, text) in rows {
+            assert_eq!(rt; ordered(alloc, n, ends)?.as_str(), text);
         }
         Ok(())
     }
