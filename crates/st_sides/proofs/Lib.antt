@@ -1,6 +1,7 @@
 pub mod BesideLemmas
 pub mod BoundaryLemmas
 pub mod CornerLemmas
+pub mod DualLemmas
 pub mod ExampleLemmas
 pub mod ExclusiveLemmas
 pub mod ExistLemmas
@@ -13,11 +14,14 @@ pub mod MeaningLemmas
 pub mod NodeLemmas
 pub mod NodeListLemmas
 pub mod NodeStartLemmas
+pub mod RotationLemmas
 pub mod NormalLemmas
 pub mod OfLemmas
+pub mod OneValueLemmas
 pub mod OwnLemmas
 pub mod PathLemmas
 pub mod PlaceLists
+pub mod ReaderLemmas
 pub mod ReorderLemmas
 pub mod RoundLemmas
 pub mod RunLemmas

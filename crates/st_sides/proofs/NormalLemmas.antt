@@ -15,6 +15,9 @@ use Rattle.st_map.proofs.EndLemmas.{at-tail, at-head, is_out-tail}
 use Rattle.st_map.proofs.RotationLemmas.{next-at, next-last}
 use Rattle.st_sides.proofs.FaceRuns.{at_st, poles_apart}
 use Rattle.st_sides.proofs.LocalLemmas.{out_place, in_place, out_there, in_there, after_outs, after_ins, some_out}
+use Rattle.st_sides.specs.Rotation.{IsRotation, OrderLaw}
+use Rattle.st_sides.specs.Sides.{outs, ins, low, high, left_path, right_path}
+use Rattle.st_sides.proofs.RotationLemmas.{HasOnce, IsCircle, rotation}
 use Rattle.st_sides.proofs.ReorderLemmas.{at-reordered, planar-re, sides-re, left_face-re, right_face-re, faces-re}
 
 cw-length : (os is : List ℕ) → length (clockwise os is) ≡ length os + length is
@@ -222,6 +225,37 @@ module _ (g : Embedded) (s t outer : ℕ) (st : IsPlanarSt g s t outer) (outs in
             ap (next (reordered g lists)) (sym q.2) ∙ next-in v q.0 lv q.1 ∙ ap (next g) q.2
       ]
 
+  -- the two lists of a vertex as one circle
+  order-once : (v : ℕ) → v < g.vertices → HasOnce (λ d. (d < darts g) × (at g d ≡ v)) (order g v)
+  order-once v lv = record {
+    own = λ i li. st.orders.own v i lv li;
+    listed = λ d h. let P : ℕ → Type 0 = λ u. (i : ℕ) × (i < length (order g u)) × (get_or (order g u) i 0 ≡ d) in subst P h.1 (st.orders.listed d h.0);
+    once = λ i j ij lj. st.orders.once v i j lv ij lj;
+  }
+
+  turned-once : (v : ℕ) → v < g.vertices → HasOnce (λ d. (d < darts g) × (at g d ≡ v)) (clockwise (outs v) (ins v))
+  turned-once v lv = record {
+    own = λ i li. let h = (ends-at v lv).own i li in (h.0, sym (at-reordered g lists (get_or (clockwise (outs v) (ins v)) i 0)) ∙ h.1);
+    listed = λ d h. (ends-at v lv).listed d h.0 (at-reordered g lists d ∙ h.1);
+    once = (ends-at v lv).once;
+  }
+
+  order-circle : (v : ℕ) → v < g.vertices → IsCircle (next g) (order g v)
+  order-circle v lv = record {
+    next = λ i l. next-at g st.orders (λ d ld. at_st g s t outer st d ld) v i lv l;
+    around = λ i l. next-last g st.orders (λ d ld. at_st g s t outer st d ld) v i lv l;
+  }
+
+  turned-circle : (v : ℕ) → v < g.vertices → IsCircle (next g) (clockwise (outs v) (ins v))
+  turned-circle v lv = record {
+    next = λ i l. sym (same_next (get_or (clockwise (outs v) (ins v)) i 0) ((ends-at v lv).own i (omega arith)).0) ∙ next-in_list v i lv l;
+    around = λ i l. sym (same_next (get_or (clockwise (outs v) (ins v)) i 0) ((ends-at v lv).own i (omega arith)).0) ∙ next-at_end v i lv l;
+  }
+
+  -- the edges out of v and then those into it are the list of v, read on from one of its places
+  pub turned : (v : ℕ) → v < g.vertices → IsRotation (order g v) (clockwise (outs v) (ins v))
+  turned v lv = rotation (next g) (order g v) (clockwise (outs v) (ins v)) (order-once v lv) (turned-once v lv) (order-circle v lv) (turned-circle v lv)
+
   normal_parts : IsPlanarSt (reordered g lists) s t (2 * first (outs s))
       × AreSides (reordered g lists) s t (2 * first (outs s)) outs ins low high left_path right_path
       × ((e : ℕ) → e < edges g → (left_face (reordered g lists) (2 * first (outs s)) e ≡ left_face g outer e)
@@ -242,3 +276,6 @@ module _ (g : Embedded) (s t outer : ℕ) (st : IsPlanarSt g s t outer) (outs in
 pub normal_law : NormalLaw
 unfolding lists
 normal_law g s t outer st outs ins low high left_path right_path sides = normal_parts g s t outer st outs ins low high left_path right_path sides
+
+pub order_law : OrderLaw
+order_law g s t outer x st of v lv = turned g s t outer st (outs x) (ins x) (low x) (high x) (left_path x) (right_path x) of.are v lv

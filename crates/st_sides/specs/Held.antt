@@ -1,9 +1,12 @@
 -- What a value of sides is known to be, wherever there is one.
 --   HasSizes x    the lists have an entry for each vertex, edge or node, and there are few nodes
 --   IsHeld x      x has the sides of the graph that it tells, and such lists
-use Rattle.std.specs.Prelude.{◌≡◌, ◌+◌, ◌<◌, ◌^◌, length}
+--   OneValueLaw   a planar st-graph has one value of sides with such lists
+use Rattle.std.specs.Prelude.{ℕ, ◌≡◌, ◌+◌, ◌<◌, ◌^◌, length}
+use Rattle.st_map.specs.Embedded.{Embedded}
+use Rattle.st_test.specs.Planar.{IsPlanarSt}
 use Rattle.st_sides.specs.Sides.{SidesValue}
-use Rattle.st_sides.specs.SidesOf.{IsOwn}
+use Rattle.st_sides.specs.SidesOf.{IsOwn, IsSidesOf}
 
 -- The lists have an entry for each of what they speak of.
 pub record HasSizes (x : SidesValue) : Type 0 where
@@ -23,3 +26,8 @@ pub record HasSizes (x : SidesValue) : Type 0 where
 pub record IsHeld (x : SidesValue) : Type 0 where
   pub own : IsOwn x
   pub sizes : HasSizes x
+
+-- Two values of sides of one planar st-graph, with an entry for each of what they speak of, are the same.
+abbrev pub OneValueLaw : Type 0
+OneValueLaw = (g : Embedded) (s t outer : ℕ) (x y : SidesValue) → IsPlanarSt g s t outer
+    → IsSidesOf g s t outer x → HasSizes x → IsSidesOf g s t outer y → HasSizes y → x ≡ y

@@ -16,3 +16,4 @@ pub mod Sides
 pub mod SidesOf
 pub mod Stretches
 pub mod Sweep
+pub mod Rotation

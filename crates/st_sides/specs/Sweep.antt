@@ -7,7 +7,12 @@
 --   BoundaryLaw g        each such list has a boundary, and a next face while an inner face is outside
 --   IsSweep, SweepLaw    an order of all nodes with the left of each edge before its right; there is one, and the dual
 --                        has no cycle
-use Rattle.std.specs.Prelude.{ℕ, List, ◌≡◌, ◌<◌, ◌≤◌}
+--   AreSwept g xs        the same of xs by places
+--   node_numbers         the numbers of the nodes of a list
+--   AreDualArcs g n as   as are the nodes on the left and right of each of the first n edges
+use Rattle.std.specs.Prelude.{ℕ, List, ◌≡◌, ◌≢◌, ◌+◌, ◌<◌, ◌≤◌, length, map, slice_index}
+use Rattle.st_ids.specs.Graph.{tail_of, head_of}
+use Rattle.st_ids.specs.declared.ids.FaceId.{FaceId}
 use Rattle.st_ids.specs.Lists.{In, NoRepeat, Precedes, FirstIs, Lists}
 use Rattle.st_ids.specs.Walks.{Walk, IsAcyclic}
 use Rattle.st_sides.specs.Sides.{SidesValue, edge_count, face_left, face_right, left_path, primal, dual, IsInner}
@@ -48,8 +53,28 @@ pub record IsSweep (g : SidesValue) (xs : List ℕ) : Type 0 where
   pub nodes : Lists xs (λ f. f ≤ g.t_star)
   pub ordered : (e : ℕ) → e < edge_count g → Precedes (face_left g e) (face_right g e) xs
 
+-- the same by places
+pub record AreSwept (g : SidesValue) (xs : List ℕ) : Type 0 where
+  pub count : length xs ≡ g.t_star + 1
+  pub within : (k : ℕ) → k < length xs → slice_index xs k ≤ g.t_star
+  pub place : (f : ℕ) → f ≤ g.t_star → (k : ℕ) × (k < length xs) × (slice_index xs k ≡ f)
+  pub apart : (i k : ℕ) → i < k → k < length xs → slice_index xs i ≢ slice_index xs k
+  -- the left of each edge with the node at a place on its right stands at an earlier place
+  pub after : (k e : ℕ) → k < length xs → e < edge_count g → face_right g e ≡ slice_index xs k
+      → (i : ℕ) × (i < k) × (slice_index xs i ≡ face_left g e)
+
 -- There is a sweep, and the dual has no cycle.
 pub record SweepLaw (g : SidesValue) : Type 0 where
   pub items : List ℕ
   pub sweep : IsSweep g items
   pub acyclic : IsAcyclic (dual g)
+
+-- the numbers of the nodes of a list
+abbrev pub node_numbers : List FaceId → List ℕ
+node_numbers fs = map (λ f. f.0) fs
+
+-- the nodes on the left and right of each of the first n edges, as arcs
+pub record AreDualArcs (g : SidesValue) (n : ℕ) (arcs : List (ℕ × ℕ)) : Type 0 where
+  pub count : length arcs ≡ n
+  pub tails : (e : ℕ) → e < n → tail_of arcs e ≡ face_left g e
+  pub heads : (e : ℕ) → e < n → head_of arcs e ≡ face_right g e

@@ -1,7 +1,9 @@
 //! Laws of planar st-graphs: empty functions, whose contracts are theorems about the definitions of specs/.
 ghost use Rattle.st_sides.specs.Example.{two_edges};
+ghost use Rattle.st_sides.specs.Held.{OneValueLaw};
 ghost use Rattle.st_sides.specs.Laws.{CornersLaw, LocalLaw, SidesLaw};
 ghost use Rattle.st_sides.specs.Normal.{NormalLaw};
+ghost use Rattle.st_sides.specs.Rotation.{OrderLaw};
 ghost use Rattle.st_sides.specs.SidesOf.{ExistLaw, MeaningLaw, OwnLaw, SweptLaw, TrichotomyLaw};
 ghost use Rattle.st_sides.specs.Sides.{IsSides};
 ghost use Rattle.st_sides.specs.Sweep.{BoundaryLaw, SweepLaw};
@@ -61,6 +63,12 @@ pub fn own()
     ensures { OwnLaw }
 {}
 
+/// Two values of sides of one planar st-graph, whose lists have an entry for each vertex, edge and node, are the same. So
+/// what is computed from the sides of a graph is a function of the graph with its lists and its outer face.
+pub fn one_value()
+    ensures { OneValueLaw }
+{}
+
 /// Boundaries and the sweep. Take a list of faces without repeats that begins with the left half of the outer face, lacks
 /// the right half, and has the left of each edge before a right that is in it. Then the edges with their left in the list
 /// and their right outside are a walk from source to sink. While an inner face is outside, some inner face outside has
@@ -75,6 +83,12 @@ pub fn swept()
 /// right of the other to the left of the one.
 pub fn one_of_four()
     ensures { TrichotomyLaw }
+{}
+
+/// At each vertex the edges out from left to right, and then the edges in from right to left, are the clockwise list of the
+/// graph, read on from one of its places.
+pub fn orders_stay()
+    ensures { OrderLaw }
 {}
 
 /// All that holds near each vertex and each face, for every value of `Sides`.

@@ -6,6 +6,7 @@ mod beside;
 mod copying;
 pub mod laws;
 mod nodes;
+mod order;
 mod parts;
 mod paths;
 mod runs;
@@ -14,5 +15,8 @@ mod sides;
 mod sides_tests;
 mod stars;
 mod starts;
+mod sweeping;
 
+pub use order::Sweep;
 pub use sides::Sides;
+pub use sweeping::sweep;

@@ -1,5 +1,6 @@
 //! The sides of a planar st-graph as a value, with its readers.
 ghost use Rattle.std.specs.Prelude.{◌≡◌, ◌<◌, ◌≤◌, ◌+◌, ◌^◌, IfOk};
+ghost use Rattle.std.specs.List.{All};
 ghost use Rattle.st_ids.specs.EdgeNumbers.{numbers};
 ghost use Rattle.st_sides.specs.Held.{IsHeld};
 ghost use Rattle.st_sides.specs.SidesOf.{IsSidesOf};
@@ -7,6 +8,7 @@ ghost use Rattle.st_sides.specs.Sides.{edge_count, edge_tail, edge_head, face_le
 
 use crate::beside::vertex_nodes;
 use crate::copying::digraph_of;
+use crate::laws;
 use crate::nodes::edge_nodes;
 use crate::paths::{count_faces, node_lists};
 use crate::stars::stars;
@@ -172,8 +174,10 @@ impl Sides {
     #[tactic(auto, unfolding(crate::specs::Sides::edge_count, crate::specs::Sides::face_left))]
     pub fn face_left(&self, e: EdgeId) -> FaceId
         requires { e.0 < edge_count self.now }
-        ensures { result.0 ≡ face_left self.now e.0 }
+        ensures value { result.0 ≡ face_left self.now e.0 }
+        ensures within { result.0 ≤ self.now.t_star }
     {
+        laws::local(self);
         FaceId(*self.edge_lefts.get(e))
     }
 
@@ -181,8 +185,10 @@ impl Sides {
     #[tactic(auto, unfolding(crate::specs::Sides::edge_count, crate::specs::Sides::face_right))]
     pub fn face_right(&self, e: EdgeId) -> FaceId
         requires { e.0 < edge_count self.now }
-        ensures { result.0 ≡ face_right self.now e.0 }
+        ensures value { result.0 ≡ face_right self.now e.0 }
+        ensures within { result.0 ≤ self.now.t_star }
     {
+        laws::local(self);
         FaceId(*self.edge_rights.get(e))
     }
 
@@ -190,8 +196,10 @@ impl Sides {
     #[tactic(auto, unfolding(crate::specs::Sides::outs))]
     pub fn outs(&self, v: VertexId) -> &[EdgeId]
         requires { v.0 < self.now.vertices }
-        ensures { numbers result.now ≡ outs self.now v.0 }
+        ensures value { numbers result.now ≡ outs self.now v.0 }
+        ensures within { All (λ e. e.0 < edge_count self.now) result.now }
     {
+        laws::local(self);
         self.outs.path(v.0)
     }
 
@@ -199,8 +207,10 @@ impl Sides {
     #[tactic(auto, unfolding(crate::specs::Sides::ins))]
     pub fn ins(&self, v: VertexId) -> &[EdgeId]
         requires { v.0 < self.now.vertices }
-        ensures { numbers result.now ≡ ins self.now v.0 }
+        ensures value { numbers result.now ≡ ins self.now v.0 }
+        ensures within { All (λ e. e.0 < edge_count self.now) result.now }
     {
+        laws::local(self);
         self.ins.path(v.0)
     }
 
@@ -209,8 +219,10 @@ impl Sides {
     #[tactic(auto, unfolding(crate::specs::Sides::left_of))]
     pub fn left(&self, v: VertexId) -> FaceId
         requires { v.0 < self.now.vertices }
-        ensures { result.0 ≡ left_of self.now v.0 }
+        ensures value { result.0 ≡ left_of self.now v.0 }
+        ensures within { result.0 ≤ self.now.t_star }
     {
+        laws::local(self);
         FaceId(*self.vertex_lefts.get(v))
     }
 
@@ -219,8 +231,10 @@ impl Sides {
     #[tactic(auto, unfolding(crate::specs::Sides::right_of))]
     pub fn right(&self, v: VertexId) -> FaceId
         requires { v.0 < self.now.vertices }
-        ensures { result.0 ≡ right_of self.now v.0 }
+        ensures value { result.0 ≡ right_of self.now v.0 }
+        ensures within { result.0 ≤ self.now.t_star }
     {
+        laws::local(self);
         FaceId(*self.vertex_rights.get(v))
     }
 
@@ -228,8 +242,10 @@ impl Sides {
     #[tactic(auto, unfolding(crate::specs::Sides::low))]
     pub fn low(&self, f: FaceId) -> VertexId
         requires { f.0 ≤ self.now.t_star }
-        ensures { result.0 ≡ low self.now f.0 }
+        ensures value { result.0 ≡ low self.now f.0 }
+        ensures within { result.0 < self.now.vertices }
     {
+        laws::local(self);
         VertexId(*self.lows.get(f))
     }
 
@@ -237,8 +253,10 @@ impl Sides {
     #[tactic(auto, unfolding(crate::specs::Sides::high))]
     pub fn high(&self, f: FaceId) -> VertexId
         requires { f.0 ≤ self.now.t_star }
-        ensures { result.0 ≡ high self.now f.0 }
+        ensures value { result.0 ≡ high self.now f.0 }
+        ensures within { result.0 < self.now.vertices }
     {
+        laws::local(self);
         VertexId(*self.highs.get(f))
     }
 
@@ -246,8 +264,11 @@ impl Sides {
     #[tactic(auto, unfolding(crate::specs::Sides::left_path))]
     pub fn left_path(&self, f: FaceId) -> &[EdgeId]
         requires { f.0 ≤ self.now.t_star }
-        ensures { numbers result.now ≡ left_path self.now f.0 }
+        ensures value { numbers result.now ≡ left_path self.now f.0 }
+        ensures within { All (λ e. e.0 < edge_count self.now) result.now }
     {
+        self.facts();
+        laws::local(self);
         self.left_paths.path(f.0)
     }
 
@@ -255,8 +276,11 @@ impl Sides {
     #[tactic(auto, unfolding(crate::specs::Sides::right_path))]
     pub fn right_path(&self, f: FaceId) -> &[EdgeId]
         requires { f.0 ≤ self.now.t_star }
-        ensures { numbers result.now ≡ right_path self.now f.0 }
+        ensures value { numbers result.now ≡ right_path self.now f.0 }
+        ensures within { All (λ e. e.0 < edge_count self.now) result.now }
     {
+        self.facts();
+        laws::local(self);
         self.right_paths.path(f.0)
     }
 }

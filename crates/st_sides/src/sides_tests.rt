@@ -3,7 +3,7 @@ ghost use Rattle.std.specs.Prelude.{◌≡◌, ◌<◌, ℕ, length, slice_index
 ghost use Rattle.st_map.specs.Embedded.{bare};
 ghost use Rattle.st_map.specs.Orders.{HasNoLoop, order_at};
 
-use crate::Sides;
+use crate::{Sides, sweep};
 use st_ids::{Digraph, EdgeId, EdgeList, FaceId, IdVec, VertexId};
 use st_map::Map;
 use st_test::{laws, poles, test};
@@ -140,6 +140,17 @@ fn faces_of(alloc: Global, n: u32, edges: &[(u32, u32)], rows: &[&[u32]]) -> Opt
     told_faces(alloc, &sides_of(alloc, n, edges, rows)?)
 }
 
+/// The nodes in the order of a sweep.
+fn sweep_of(alloc: Global, n: u32, edges: &[(u32, u32)], rows: &[&[u32]]) -> Option<Vec<u32>> {
+    let sides = sides_of(alloc, n, edges, rows)?;
+    let found = sweep(alloc, &sides).ok()?;
+    let mut list = Vec::new(alloc);
+    for f in found.items() {
+        list.push(f.0).ok()?;
+    }
+    Some(list)
+}
+
 const DIAMONDS: [(u32, u32); 8] = [
     (0, 1),
     (0, 2),
@@ -199,6 +210,16 @@ mod tests {
         assert_eq!(rt;
             faces_of(alloc, 4, &CHORDS, &CHORD_LISTS).as_deref(),
             Some(expected.as_slice())
+        );
+        Ok(())
+    }
+
+    #[test]
+    fn nodes_are_swept_from_left_to_right(rt: HostRuntime) -> Result<(), Fail> {
+        let alloc = rt.alloc();
+        assert_eq!(rt;
+            sweep_of(alloc, 4, &CHORDS, &CHORD_LISTS).as_deref(),
+            Some([0, 2, 1, 3].as_slice())
         );
         Ok(())
     }
