@@ -1,12 +1,13 @@
 -- What the definitions say together.
 use Rattle.std.proofs.Common.{◌≡◌, ◌<◌, ◌≤◌, ◌^◌, ℕ, Bool, true, false, cond, nat_lt, Option, Some, None, option_map, [], length, codes, refl, subst, arith}
 use Rattle.std.proofs.lemmas.Bool.Decides.{nat_tests}
+use Rattle.std.proofs.lemmas.List.{length-map}
 use Rattle.gml_core.specs.Trees.{Entry, Entries, listed}
 use Rattle.st_input.specs.Used.{first}
 use Rattle.st_input.specs.Parts.{parts_in}
 use Rattle.st_input.specs.InputGraph.{InputGraph, IsConsistent}
 use Rattle.st_input.specs.Embedding.{embedded_in, embedded_graph}
-use Rattle.st_input.specs.Faults.{or_else, first_fault, node_fault, edge_fault, node_names, ids_fault, orders_fault, edge_names}
+use Rattle.st_input.specs.Faults.{or_else, first_fault, node_fault, edge_fault, node_names, ids_fault, orders_fault, edge_names, pair_in, ends_in}
 use Rattle.st_input.specs.FirstFault.{limits_fault, outer_fault, parts_fault, text_fault, graph_fault, shape_fault}
 use Rattle.st_input.specs.declared.fault.ShapeFault.{ShapeFault}
 use Rattle.st_input.specs.declared.fault.ShapeFault.TheVariants.{TooManyVertices, TooManyEdges}
@@ -60,3 +61,18 @@ fits_together text max_n max_m g few_n few_m clear is = by (first (codes "graph"
         let fit = labels_fit e in
         let same : embedded_in (parts_in e) ≡ g = some_same (embedded_in (parts_in e)) g q in
         subst IsConsistent same (consistent_in (parts_in e) max_n max_m none small less fit.0 fit.1)
+
+pub within_limits : (text : Entries) (max_n max_m : ℕ) (g : InputGraph) → shape_fault text max_n max_m ≡ None → embedded_graph text ≡ Some g → (g.graph.vertices ≤ max_n) × (length g.graph.ends ≤ max_m)
+unfolding shape_fault embedded_graph
+within_limits text max_n max_m g clear is = by (first (codes "graph") (listed text)) clear is
+  where
+    by : (o : Option Entry) → graph_fault (listed text) o max_n max_m ≡ None → option_map (λ (e : Entry). embedded_in (parts_in e)) o ≡ Some g → (g.graph.vertices ≤ max_n) × (length g.graph.ends ≤ max_m)
+    by None h q = absurd (cc)
+    by (Some e) h q =
+        let none = (or_none (text_fault (listed text)) (parts_fault (parts_in e) max_n max_m) h).1 in
+        let within = limits_clear (parts_in e) max_n max_m none in
+        let nodes : length (parts_in e).nodes ≤ max_n = few_vertices (length (parts_in e).nodes) (length (parts_in e).edges) max_n max_m within in
+        let edges : length (parts_in e).edges ≤ max_m = few_edges (length (parts_in e).nodes) (length (parts_in e).edges) max_n max_m within in
+        let counted : length (ends_in (node_names (parts_in e).nodes) (parts_in e).edges) ≡ length (parts_in e).edges = length-map (parts_in e).edges (pair_in (node_names (parts_in e).nodes)) in
+        let same : embedded_in (parts_in e) ≡ g = some_same (embedded_in (parts_in e)) g q in
+        subst (λ (z : InputGraph). (z.graph.vertices ≤ max_n) × (length z.graph.ends ≤ max_m)) same (nodes, omega arith)

@@ -1,6 +1,7 @@
 -- What the definitions say together.
 --   FitsTogether   the tables of the graph of a text without a fault fit together
-use Rattle.std.specs.Prelude.{◌≡◌, ◌<◌, ◌^◌, ℕ, None, Some}
+--   KeepsLimits    a graph that is accepted is within the limits
+use Rattle.std.specs.Prelude.{◌≡◌, ◌<◌, ◌≤◌, ◌^◌, ℕ, length, None, Some}
 use Rattle.gml_core.specs.Trees.{Entries}
 use Rattle.st_input.specs.InputGraph.{InputGraph, IsConsistent}
 use Rattle.st_input.specs.Embedding.{embedded_graph}
@@ -9,3 +10,7 @@ use Rattle.st_input.specs.FirstFault.{shape_fault}
 -- the tables of the graph of a text without a fault fit together
 abbrev pub FitsTogether : Type 0
 FitsTogether = (text : Entries) (max_n max_m : ℕ) (g : InputGraph) → max_n < 2 ^ 30 → max_m < 2 ^ 30 → shape_fault text max_n max_m ≡ None → embedded_graph text ≡ Some g → IsConsistent g
+
+-- the graph of a text without a fault has no more vertices and edges than the limits
+abbrev pub KeepsLimits : Type 0
+KeepsLimits = (text : Entries) (max_n max_m : ℕ) (g : InputGraph) → shape_fault text max_n max_m ≡ None → embedded_graph text ≡ Some g → (g.graph.vertices ≤ max_n) × (length g.graph.ends ≤ max_m)
