@@ -1,9 +1,14 @@
+pub mod BadLines
+pub mod Cuts
 pub mod Decodes
 pub mod Endings
+pub mod FirstBad
 pub mod Grids
 pub mod Items
+pub mod Names
 pub mod Numbers
 pub mod Pictures
 pub mod Plain
+pub mod Readings
 pub mod Short
 pub mod Writes

@@ -1,10 +1,12 @@
--- What lines tell of an item: the way back from its two lines, by which two pictures of one text are one.
+-- What lines tell of an item: the way back from its two lines, by which a text is read, and two pictures of one text are
+-- one.
 --   word bs, behind bs  the bytes before the first space, and those behind it
 --   number_of bs        the number that is spelt so
 --   place_of margin s   the point whose two coordinates begin s
 --   decoded name mark   the item with these two lines
 --   frame_from line     the frame of the box line
 --   form_from line      the form of the title
+--   line_from bs        the first line, or all where no line ends; after_line bs what is behind it
 use Rattle.std.specs.Prelude.{ℕ, Bool, true, false, ◌+◌, ◌-◌, ◌*◌, ◌/◌, ◌^◌, ◌==◌, ◌&&◌, if◌then◌else◌, nat_lt, nat_le, ℤ, pos, List, [], ◌∷◌, length, take, drop, slice_index, Option, Some, None}
 use Rattle.std.proofs.Common.{neg_ℤ}
 use Rattle.std.specs.List.{position_or_len}
@@ -122,3 +124,10 @@ form_at b =
 
 abbrev pub form_from : List ℕ → Form
 form_from line = form_at (slice_index (behind line) 0)
+
+-- the bytes before the first line feed, and those behind it
+abbrev pub line_from : List ℕ → List ℕ
+line_from bs = take (position_or_len (λ b. b == 10) bs) bs
+
+abbrev pub after_line : List ℕ → List ℕ
+after_line bs = drop (position_or_len (λ b. b == 10) bs + 1) bs

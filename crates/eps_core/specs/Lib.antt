@@ -1,5 +1,6 @@
 pub mod Decoding
 pub mod Grid
 pub mod Meaning
+pub mod Reading
 pub mod Text
 pub mod Writing

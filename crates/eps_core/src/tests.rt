@@ -90,7 +90,8 @@ fn five_kinds(alloc: Global) -> Result<Picture, NoMemory> {
     Ok(picture)
 }
 
-const ONE_EDGE: &[u8] = b"%!PS-Adobe-3.0 EPSF-3.0
+/// The text of `one_edge`, of 13 lines.
+pub const ONE_EDGE: &[u8] = b"%!PS-Adobe-3.0 EPSF-3.0
 %%BoundingBox: 0 0 72 96
 %%Title: visibility
 %%EndComments
@@ -105,7 +106,8 @@ newpath 36 36 moveto 36 60 lineto stroke
 %%EOF
 ";
 
-const FIVE_KINDS: &[u8] = b"%!PS-Adobe-3.0 EPSF-3.0
+/// The text of `five_kinds`, of 17 lines.
+pub const FIVE_KINDS: &[u8] = b"%!PS-Adobe-3.0 EPSF-3.0
 %%BoundingBox: 0 0 120 144
 %%Title: polyline
 %%EndComments
