@@ -1,0 +1,5 @@
+pub mod BoundLemmas
+pub mod FillLemmas
+pub mod GreatestLemmas
+pub mod MarkLemmas
+pub mod PassLemmas

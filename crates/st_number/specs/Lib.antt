@@ -1,0 +1,7 @@
+pub mod Bounds
+pub mod Filling
+pub mod Greatest
+pub mod Heights
+pub mod Parallel
+pub mod Passing
+pub mod Weighing

@@ -1,0 +1,125 @@
+//! Heights: one pass along the edges, each after all edges into its tail.
+ghost use Rattle.std.specs.Prelude.{◌≡◌, ◌+◌, ◌<◌, ◌≤◌, ◌^◌, ℕ, pos, length, map, slice_index, IfOk};
+ghost use Rattle.st_ids.specs.EdgeNumbers.{numbers};
+ghost use Rattle.st_ids.specs.Graph.{HasEnds};
+ghost use Rattle.st_map.specs.Embedded.{bare, edges};
+ghost use Rattle.st_number.specs.Heights.{AreHeights, AreSums, AreTaken};
+ghost use Rattle.st_number.specs.Passing.{IsEdgeOrder, IsPassTable};
+ghost use Rattle.st_number.specs.Weighing.{IsLawful};
+
+use crate::weights::Weights;
+use st_ids::{Digraph, EdgeId, Id, IdVec, NoMemory, VertexId};
+use st_map::Map;
+use st_test::{StGraph, topological_order};
+use std::alloc::Global;
+
+/// The weights of all edges of a map: the closure is asked once on each.
+fn take_all<F: Fn(EdgeId) -> u32>(
+    alloc: Global,
+    map: &Map,
+    w: &Weights<F>,
+) -> Result<IdVec<EdgeId, u32>, NoMemory>
+    requires lawful { IsLawful F.pre F.post w.now }
+    requires edges { w.now.edges ≡ edges map.now.graph }
+    ensures { IfOk result (AreTaken (F.post w.now.closure) (edges map.now.graph) w.now.most) }
+{
+    let mut taken = IdVec::new(alloc);
+    for e in 0..map.edges() {
+        taken.push(w.weight(EdgeId(e)))?;
+    }
+    Ok(taken)
+}
+
+/// What the edges in order bring to each vertex.
+fn pass(
+    alloc: Global,
+    graph: &Digraph,
+    taken: &IdVec<EdgeId, u32>,
+    most: u32,
+    order: &[EdgeId],
+) -> Result<IdVec<VertexId, u64>, NoMemory>
+    requires ends { HasEnds graph.now }
+    requires few { length graph.now.ends < 2 ^ 30 }
+    requires size { length taken.now ≡ length graph.now.ends }
+    requires weights { (e : ℕ) → e < length taken.now → slice_index taken.now e ≤ most }
+    requires small { most ≤ 1000 }
+    requires order { IsEdgeOrder graph.now.ends (numbers order.now) }
+    ensures { IfOk result (IsPassTable graph.now.vertices graph.now.ends (slice_index taken.now)) }
+{
+    let mut sums = IdVec::with_len(alloc, graph.vertices(), 0u64)?;
+    for k in 0..order.len() {
+        let e = order[k];
+        let (tail, head) = (graph.tail(e), graph.head(e));
+        let reached = *sums.get(tail) + u64::from(*taken.get(e));
+        if *sums.get(head) < reached {
+            sums.set(head, reached);
+        }
+    }
+    Ok(sums)
+}
+
+/// The numbers as signed ones, which coordinates are.
+pub(crate) fn signed<K: Id>(alloc: Global, sums: &IdVec<K, u64>) -> Result<IdVec<K, i64>, NoMemory>
+    requires room { length sums.now ≤ 2 ^ 31 }
+    requires few { (k : ℕ) → k < length sums.now → slice_index sums.now k < 2 ^ 63 }
+    ensures { IfOk result (λ v. v ≡ map (λ n. pos n) sums.now) }
+{
+    let mut list = IdVec::new(alloc);
+    let items = sums.items();
+    for k in 0..items.len() {
+        list.push(items[k] as i64)?;
+    }
+    Ok(list)
+}
+
+/// The vertices and edges of a map.
+fn digraph_of(alloc: Global, map: &Map) -> Result<Digraph, NoMemory>
+    ensures value { IfOk result (λ d. d ≡ bare map.now.graph) }
+    ensures few_vertices { IfOk result (λ d. d.vertices < 2 ^ 30) }
+    ensures few_edges { IfOk result (λ d. length d.ends < 2 ^ 30) }
+{
+    let mut graph = Digraph::new(alloc);
+    graph.add_vertices(map.vertices());
+    for e in 0..map.edges() {
+        let (tail, head) = (map.tail(EdgeId(e)), map.head(EdgeId(e)));
+        graph.add_edge(tail, head)?;
+    }
+    Ok(graph)
+}
+
+/// The greatest weight of a walk from the source to each vertex.
+fn sum_up(
+    alloc: Global,
+    graph: &StGraph,
+    taken: &IdVec<EdgeId, u32>,
+    most: u32,
+) -> Result<IdVec<VertexId, u64>, NoMemory>
+    requires size { length taken.now ≡ edges graph.now.map.graph }
+    requires weights { (e : ℕ) → e < length taken.now → slice_index taken.now e ≤ most }
+    requires small { most ≤ 1000 }
+    ensures { IfOk result (AreSums graph.now.map.graph graph.now.source (slice_index taken.now) most) }
+{
+    let copy = digraph_of(alloc, graph.map())?;
+    let order = topological_order(alloc, &copy)?;
+    let sums = pass(alloc, &copy, taken, most, order.edges())?;
+    Ok(sums)
+}
+
+/// The height of each vertex: the greatest weight of a walk from the source, under one answer of the closure on each edge.
+///
+/// Errors: `NoMemory`.
+/// Cost: O(V + E) time, one call of the closure an edge. Not proved.
+pub fn heights<F: Fn(EdgeId) -> u32>(
+    alloc: Global,
+    graph: &StGraph,
+    w: &Weights<F>,
+) -> Result<IdVec<VertexId, i64>, NoMemory>
+    requires lawful { IsLawful F.pre F.post w.now }
+    requires edges { w.now.edges ≡ edges graph.now.map.graph }
+    ensures { IfOk result (AreHeights (F.post w.now.closure) graph.now.map.graph graph.now.source w.now.most) }
+{
+    let taken = take_all(alloc, graph.map(), w)?;
+    let sums = sum_up(alloc, graph, &taken, w.most())?;
+    let heights = signed(alloc, &sums)?;
+    Ok(heights)
+}
