@@ -1,0 +1,13 @@
+pub mod BarLemmas
+pub mod ExampleNames
+pub mod FigureLemmas
+pub mod JoinLemmas
+pub mod LabelLemmas
+pub mod NameLemmas
+pub mod NaturalLemmas
+pub mod NeatLemmas
+pub mod PlaceLemmas
+pub mod PushLemmas
+pub mod SegmentLemmas
+pub mod SpanLemmas
+pub mod TableLemmas
