@@ -1,0 +1,4 @@
+pub mod Labels
+pub mod Laws
+pub mod Numbers
+pub mod Orders
