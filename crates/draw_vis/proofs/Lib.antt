@@ -1,0 +1,8 @@
+pub mod BuildLemmas
+pub mod ItemLemmas
+pub mod LaidLemmas
+pub mod NumberLemmas
+pub mod RowLemmas
+pub mod SameLemmas
+pub mod TableLemmas
+pub mod TileLemmas

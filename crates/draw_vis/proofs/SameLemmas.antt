@@ -1,0 +1,153 @@
+-- Pictures of equal heights and columns are equal, so there is one picture of each form; and there is some.
+use Rattle.std.proofs.Common.{ℕ, List, ◌++◌, ◌≡◌, ◌<◌, ◌≤◌, ◌+◌, ◌-◌, ◌∷◌, [], inl, inr, refl, sym, ap, ◌∙◌, subst, arith, pos}
+use Rattle.std.proofs.lemmas.Bool.{cases_eq}
+use Rattle.st_ids.specs.declared.names.Names.{Names}
+use Rattle.st_ids.specs.Walks.{Walk, stay, step}
+use Rattle.st_ids.proofs.WalkLemmas.{on_walk}
+use Rattle.st_shape.specs.declared.item.Item.{Item}
+use Rattle.st_shape.specs.declared.item.Item.TheVariants.{Bar, Line, Rect, Face}
+use Rattle.st_shape.specs.declared.picture.Form.{Form}
+use Rattle.st_shape.specs.declared.picture.Form.TheVariants.{Visibility, Tessellation}
+use Rattle.st_shape.specs.declared.point.Point.{Point}
+use Rattle.st_shape.specs.Rules.{Drawing}
+use Rattle.st_sides.specs.Objects.{vertex}
+use Rattle.st_sides.specs.Sides.{SidesValue, edge_count, edge_tail, edge_head, face_left, face_right, left_of, right_of, low, high, primal, dual, IsInner, IsSides}
+use Rattle.st_sides.proofs.ExclusiveLemmas.{across}
+use Rattle.st_picture.specs.Bars.{bar, bar_start, upright, bars}
+use Rattle.st_picture.specs.Items.{at, each, labels, line}
+use Rattle.st_picture.specs.Naming.{vertex_name, edge_name}
+use Rattle.st_picture.proofs.PlaceLemmas.{each_same, labels_same}
+use Rattle.st_picture.proofs.SpanLemmas.{right_in}
+use Rattle.draw_vis.specs.Laws.{PicturesLaw}
+use Rattle.draw_vis.specs.Tessellation.{full_bar, box, post, boxes}
+use Rattle.draw_vis.specs.Visibility.{in_left_column}
+use Rattle.draw_vis.proofs.NumberLemmas.{same_heights, same_columns, numbers}
+use Rattle.draw_vis.proofs.RowLemmas.{sink_in}
+
+-- ---- items
+at_same : (a b a' b' : ℕ) → a ≡ a' → b ≡ b' → at a b ≡ at a' b'
+at_same a b a' b' e f = ap (λ z. at z b) e ∙ ap (λ z. at a' z) f
+
+bar_same : (N : Names) (v y f t y' f' t' : ℕ) → y ≡ y' → f ≡ f' → t ≡ t' → Bar (vertex_name N v) (pos y) (pos f) (pos t) ≡ Bar (vertex_name N v) (pos y') (pos f') (pos t')
+bar_same N v y f t y' f' t' a b c = ap (λ z. Bar (vertex_name N v) (pos z) (pos f) (pos t)) a ∙ ap (λ z. Bar (vertex_name N v) (pos y') (pos z) (pos t)) b ∙ ap (λ z. Bar (vertex_name N v) (pos y') (pos f') (pos z)) c
+
+two_same : (k a b k' a' b' : ℕ) → k ≡ k' → a ≡ a' → b ≡ b' → at k a ∷ at k b ∷ [] ≡ at k' a' ∷ at k' b' ∷ []
+two_same k a b k' a' b' e f h = ap (λ z. at z a ∷ at z b ∷ []) e ∙ ap (λ z. at k' z ∷ at k' b ∷ []) f ∙ ap (λ z. at k' a' ∷ at k' z ∷ []) h
+
+less_one : (a b : ℕ) → a ≡ b → a - 1 ≡ b - 1
+less_one a b e = ap (λ z. z - 1) e
+
+post_same : (f a b x a' b' x' : ℕ) → a ≡ a' → b ≡ b' → x ≡ x' → Face f (pos a) (pos b) (pos x) ≡ Face f (pos a') (pos b') (pos x')
+post_same f a b x a' b' x' p q r = ap (λ t. Face f (pos t) (pos b) (pos x)) p ∙ ap (λ t. Face f (pos a') (pos t) (pos x)) q ∙ ap (λ t. Face f (pos a') (pos b') (pos t)) r
+
+abbrev picture_of : Form → Point → List Item → Drawing
+picture_of form frame items = record { form = form; frame = frame; items = items }
+
+picture_same : (form : Form) (p p' : Point) (xs xs' : List Item) → p ≡ p' → xs ≡ xs' → picture_of form p xs ≡ picture_of form p' xs'
+picture_same form p p' xs xs' e f = ap (λ z. picture_of form z xs) e ∙ ap (λ z. picture_of form p' z) f
+
+three_same : (a a' b b' c c' : List Item) → a ≡ a' → b ≡ b' → c ≡ c' → a ++ (b ++ c) ≡ a' ++ (b' ++ c')
+three_same a a' b b' c c' p q r = ap (λ t. t ++ (b ++ c)) p ∙ ap (λ t. a' ++ (t ++ c)) q ∙ ap (λ t. a' ++ (b' ++ t)) r
+
+-- bars and lines whose lines stand in the same columns
+pub bars_of_lines : (g : SidesValue) (N : Names) (form : Form) (y c k k' : ℕ → ℕ) → ((e : ℕ) → e < edge_count g → k e ≡ k' e) → bars g N form y c k ≡ bars g N form y c k'
+bars_of_lines g N form y c k k' h =
+    ap (λ z. picture_of form (at (c g.t_star - 1) (y g.sink)) (each (bar g N y c) g.vertices ++ (z ++ labels N (bar_start g y c) g.vertices)))
+    (each_same (line g N (upright g y k)) (line g N (upright g y k')) (edge_count g)
+    (λ e a. ap (λ z. Line (edge_name N e) (vertex_name N (edge_tail g e)) (vertex_name N (edge_head g e)) (at z (y (edge_tail g e)) ∷ at z (y (edge_head g e)) ∷ [])) (h e a)))
+
+module _ (g : SidesValue) (S : IsSides g) where
+  -- ---- numbers that are in range
+  starts_within : {u v : ℕ} {es : List ℕ} → Walk (dual g) u es v → v ≤ g.t_star → u ≤ g.t_star
+  starts_within (stay q) l = subst (λ z. z ≤ g.t_star) (sym q) l
+  starts_within (step {e = e} a t r) l = (let m : face_left g e < g.t_star = S.left_before e a in subst (λ z. z ≤ g.t_star) t (omega arith))
+
+  pub left_in : (v : ℕ) → v < g.vertices → left_of g v ≤ g.t_star
+  left_in v i = elim (across g S (vertex v) i) [
+    | inl A ↦ (let m : face_left g A.arc < g.t_star = S.left_before A.arc A.is_arc in starts_within A.from_left.walk (omega arith))
+    | inr z ↦ (let q : left_of g v ≡ 0 = z.0 in omega arith)
+  ]
+
+  edge_left_in : (e : ℕ) → e < edge_count g → face_left g e ≤ g.t_star
+  edge_left_in e a = let m : face_left g e < g.t_star = S.left_before e a in omega arith
+
+  -- the ends of faces
+  begins_in : {u v : ℕ} {es : List ℕ} → Walk (primal g) u es v → v < g.vertices → u < g.vertices
+  begins_in (stay q) l = subst (λ z. z < g.vertices) (sym q) l
+  begins_in (step {e = e} a t r) l = subst (λ z. z < g.vertices) t (S.tail_in e a)
+
+  ends_in : {u v : ℕ} {es : List ℕ} → Walk (primal g) u es v → u < g.vertices → v < g.vertices
+  ends_in (stay q) l = subst (λ z. z < g.vertices) q l
+  ends_in (step {e = e} a t r) l = ends_in r (S.head_in e a)
+
+  pub face_ends : (f : ℕ) → f ≤ g.t_star → (low g f < g.vertices) × (high g f < g.vertices)
+  face_ends f l = elim (cases_eq f 0) [
+    | inl q ↦ (subst (λ z. z < g.vertices) (sym (ap (low g) q ∙ S.low_s)) S.source_in, subst (λ z. z < g.vertices) (sym (ap (high g) q ∙ S.high_s)) (sink_in g S))
+    | inr n ↦ elim (cases_eq f g.t_star) [
+      | inl q ↦ (subst (λ z. z < g.vertices) (sym (ap (low g) q ∙ S.low_t)) S.source_in, subst (λ z. z < g.vertices) (sym (ap (high g) q ∙ S.high_t)) (sink_in g S))
+      | inr m ↦
+          let inner : IsInner g f = record { not_s = omega arith; not_t = omega arith } in
+          let some = S.left_path_some f inner in
+          let E = on_walk (S.left_path_walk f (omega arith) (omega arith)) some.1 in
+          (begins_in E.before.walk (S.tail_in some.0 E.arc), ends_in E.after.walk (S.head_in some.0 E.arc))
+    ]
+  ]
+
+  module _ (N : Names) (y c y' c' : ℕ → ℕ) (ys : (v : ℕ) → v < g.vertices → y v ≡ y' v) (cs : (f : ℕ) → f ≤ g.t_star → c f ≡ c' f) where
+    labels_agree : labels N (bar_start g y c) g.vertices ≡ labels N (bar_start g y' c') g.vertices
+    labels_agree = labels_same N (bar_start g y c) (bar_start g y' c') g.vertices (λ v i. at_same (c (left_of g v)) (y v) (c' (left_of g v)) (y' v) (cs (left_of g v) (left_in v i)) (ys v i))
+
+    -- ---- bars and lines
+    one_line : (e : ℕ) → e < edge_count g → line g N (upright g y (in_left_column g c)) e ≡ line g N (upright g y' (in_left_column g c')) e
+    one_line e a = ap (λ z. Line (edge_name N e) (vertex_name N (edge_tail g e)) (vertex_name N (edge_head g e)) z)
+        (two_same (c (face_left g e)) (y (edge_tail g e)) (y (edge_head g e)) (c' (face_left g e)) (y' (edge_tail g e)) (y' (edge_head g e)) (cs (face_left g e) (edge_left_in e a)) (ys (edge_tail g e) (S.tail_in e a)) (ys (edge_head g e) (S.head_in e a)))
+
+    pub one_bars : bars g N Visibility y c (in_left_column g c) ≡ bars g N Visibility y' c' (in_left_column g c')
+    one_bars = picture_same Visibility (at (c g.t_star - 1) (y g.sink)) (at (c' g.t_star - 1) (y' g.sink))
+        (each (bar g N y c) g.vertices ++ (each (line g N (upright g y (in_left_column g c))) (edge_count g) ++ labels N (bar_start g y c) g.vertices))
+        (each (bar g N y' c') g.vertices ++ (each (line g N (upright g y' (in_left_column g c'))) (edge_count g) ++ labels N (bar_start g y' c') g.vertices))
+        (at_same (c g.t_star - 1) (y g.sink) (c' g.t_star - 1) (y' g.sink) (less_one (c g.t_star) (c' g.t_star) (cs g.t_star (omega arith))) (ys g.sink (sink_in g S)))
+        (three_same (each (bar g N y c) g.vertices) (each (bar g N y' c') g.vertices) (each (line g N (upright g y (in_left_column g c))) (edge_count g)) (each (line g N (upright g y' (in_left_column g c'))) (edge_count g)) (labels N (bar_start g y c) g.vertices) (labels N (bar_start g y' c') g.vertices)
+        (each_same (bar g N y c) (bar g N y' c') g.vertices (λ v i. bar_same N v (y v) (c (left_of g v)) (c (right_of g v) - 1) (y' v) (c' (left_of g v)) (c' (right_of g v) - 1) (ys v i) (cs (left_of g v) (left_in v i)) (less_one (c (right_of g v)) (c' (right_of g v)) (cs (right_of g v) (right_in g S v i)))))
+        (each_same (line g N (upright g y (in_left_column g c))) (line g N (upright g y' (in_left_column g c'))) (edge_count g) one_line)
+        labels_agree)
+
+    -- ---- boxes
+    box_same : (e a b x z a' b' x' z' : ℕ) → a ≡ a' → b ≡ b' → x ≡ x' → z ≡ z' → Rect (edge_name N e) (vertex_name N (edge_tail g e)) (vertex_name N (edge_head g e)) (at a b) (at x z) ≡ Rect (edge_name N e) (vertex_name N (edge_tail g e)) (vertex_name N (edge_head g e)) (at a' b') (at x' z')
+    box_same e a b x z a' b' x' z' p q r s =
+        ap (λ t. Rect (edge_name N e) (vertex_name N (edge_tail g e)) (vertex_name N (edge_head g e)) t (at x z)) (at_same a b a' b' p q)
+        ∙ ap (λ t. Rect (edge_name N e) (vertex_name N (edge_tail g e)) (vertex_name N (edge_head g e)) (at a' b') t) (at_same x z x' z' r s)
+
+    one_box : (e : ℕ) → e < edge_count g → box g N y c e ≡ box g N y' c' e
+    one_box e a = box_same e (c (face_left g e)) (y (edge_tail g e)) (c (face_right g e)) (y (edge_head g e)) (c' (face_left g e)) (y' (edge_tail g e)) (c' (face_right g e)) (y' (edge_head g e))
+        (cs (face_left g e) (edge_left_in e a)) (ys (edge_tail g e) (S.tail_in e a)) (cs (face_right g e) (S.right_within e a)) (ys (edge_head g e) (S.head_in e a))
+
+    one_post : (f : ℕ) → f < g.t_star + 1 → post g y c f ≡ post g y' c' f
+    one_post f l =
+        let E = face_ends f (omega arith) in
+        post_same f (c f) (y (low g f)) (y (high g f)) (c' f) (y' (low g f)) (y' (high g f)) (cs f (omega arith)) (ys (low g f) E.0) (ys (high g f) E.1)
+
+    posts_agree : each (post g y c) (g.t_star + 1) ++ labels N (bar_start g y c) g.vertices ≡ each (post g y' c') (g.t_star + 1) ++ labels N (bar_start g y' c') g.vertices
+    posts_agree =
+        ap (λ z. z ++ labels N (bar_start g y c) g.vertices) (each_same (post g y c) (post g y' c') (g.t_star + 1) one_post)
+        ∙ ap (λ z. each (post g y' c') (g.t_star + 1) ++ z) labels_agree
+
+    pub one_boxes : boxes g N y c ≡ boxes g N y' c'
+    one_boxes = picture_same Tessellation (at (c g.t_star) (y g.sink)) (at (c' g.t_star) (y' g.sink))
+        (each (full_bar g N y c) g.vertices ++ (each (box g N y c) (edge_count g) ++ (each (post g y c) (g.t_star + 1) ++ labels N (bar_start g y c) g.vertices)))
+        (each (full_bar g N y' c') g.vertices ++ (each (box g N y' c') (edge_count g) ++ (each (post g y' c') (g.t_star + 1) ++ labels N (bar_start g y' c') g.vertices)))
+        (at_same (c g.t_star) (y g.sink) (c' g.t_star) (y' g.sink) (cs g.t_star (omega arith)) (ys g.sink (sink_in g S)))
+        (three_same (each (full_bar g N y c) g.vertices) (each (full_bar g N y' c') g.vertices) (each (box g N y c) (edge_count g)) (each (box g N y' c') (edge_count g)) (each (post g y c) (g.t_star + 1) ++ labels N (bar_start g y c) g.vertices) (each (post g y' c') (g.t_star + 1) ++ labels N (bar_start g y' c') g.vertices)
+        (each_same (full_bar g N y c) (full_bar g N y' c') g.vertices (λ v i. bar_same N v (y v) (c (left_of g v)) (c (right_of g v)) (y' v) (c' (left_of g v)) (c' (right_of g v)) (ys v i) (cs (left_of g v) (left_in v i)) (cs (right_of g v) (right_in g S v i))))
+        (each_same (box g N y c) (box g N y' c') (edge_count g) one_box)
+        posts_agree)
+
+  pub pictures_law : PicturesLaw g
+  pictures_law = record {
+    some_visibility = λ w N. (let M = numbers g S w in (bars g N Visibility M.0 M.1 (in_left_column g M.1), record { y = M.0; c = M.1; numbers = M.2; is = refl }));
+    one_visibility = λ w N d d' A B.
+        A.is ∙ one_bars N A.y A.c B.y B.c (same_heights g S w A.y B.y A.numbers.height B.numbers.height) (same_columns g S A.c B.c A.numbers.column B.numbers.column) ∙ sym B.is;
+    some_tessellation = λ w N. (let M = numbers g S w in (boxes g N M.0 M.1, record { y = M.0; c = M.1; numbers = M.2; is = refl }));
+    one_tessellation = λ w N d d' A B.
+        A.is ∙ one_boxes N A.y A.c B.y B.c (same_heights g S w A.y B.y A.numbers.height B.numbers.height) (same_columns g S A.c B.c A.numbers.column B.numbers.column) ∙ sym B.is;
+  }

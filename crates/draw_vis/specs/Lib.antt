@@ -1,0 +1,6 @@
+pub mod Laws
+pub mod Numbers
+pub mod Rows
+pub mod Tables
+pub mod Tessellation
+pub mod Visibility
