@@ -2,10 +2,12 @@ pub mod LinkLemmas
 pub mod SearchLemmas
 pub mod WordLemmas
 pub mod VerdictLemmas
+pub mod DrawingLemmas
 pub mod StageLemmas
 pub mod VerdictOne
 pub mod OneAnswer
 pub mod RunLemmas
+pub mod HeadlineLemmas
 pub mod AnswerLemmas
 pub mod QueryLemmas
 pub mod LineLemmas

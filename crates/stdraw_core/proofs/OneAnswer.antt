@@ -1,20 +1,31 @@
 -- Words and bytes have at most one answer, as each stage has.
-use Rattle.std.proofs.Common.{◌≡◌, ℕ, suc, ◌+◌, ◌*◌, ◌<◌, ◌≤◌, inl, inr, ℤ, pos, List, [], ◌∷◌, ◌++◌, length, get_or, Some, None, refl, sym, ap, ◌∙◌, arith}
+use Rattle.std.proofs.Common.{◌≡◌, ℕ, suc, ◌+◌, ◌*◌, ◌<◌, ◌≤◌, inl, inr, ℤ, pos, List, [], ◌∷◌, ◌++◌, length, get_or, Some, None, codes, refl, sym, ap, ◌∙◌, subst, arith}
 use Rattle.std.specs.Prelude.{Ok, Err}
 use Rattle.gml_core.specs.Trees.{Entries}
 use Rattle.gml_core.proofs.Unique.{one_tree, one_first, not_both}
 use Rattle.st_input.specs.InputGraph.{InputGraph}
-use Rattle.st_test.specs.Planar.{StValue}
+use Rattle.st_test.specs.Planar.{IsPlanarSt, StValue}
 use Rattle.st_test.specs.PolesAnswer.{OnePolesAnswer}
 use Rattle.stdraw_core.specs.declared.words.Command.{Command}
-use Rattle.stdraw_core.specs.declared.words.Command.TheVariants.{Query, Test}
+use Rattle.stdraw_core.specs.declared.words.Command.TheVariants.{Query, Test, Draw}
+use Rattle.stdraw_core.specs.declared.words.DrawForm.{DrawForm}
+use Rattle.stdraw_core.specs.declared.words.DrawForm.TheVariants.{Visibility, Tessellation}
 use Rattle.stdraw_core.specs.declared.stop.Refusal.{Refusal}
 use Rattle.stdraw_core.specs.declared.stop.Refusal.TheVariants.{Words, TooManyBytes, Gml, Shape, NotSt, UnknownVertex}
 use Rattle.stdraw_core.specs.Stages.{IsOne}
-use Rattle.stdraw_core.specs.Words.{IsName, AreNames, IsCommand}
+use Rattle.stdraw_core.specs.Words.{IsName, AreNames, form_words, AreForm, IsCommand}
 use Rattle.stdraw_core.specs.Query.{names_of, AreKnown, IsFirstUnknown, IsLine, line_of_names, AreLines, no_line, one_line}
 use Rattle.stdraw_core.specs.Verdict.{IsAccepted}
-use Rattle.stdraw_core.specs.Answer.{Asks, IsFew, IsTree, IsGraph, AnswersQuery, AnswersTest, Answers, AnswersGraph, AnswersFile, HaveOneAnswer, byte_limit}
+use Rattle.stdraw_core.specs.Answer.{Asks, IsFew, IsTree, IsGraph, AnswersQuery, AnswersTest, AnswersDraw, Answers, AnswersGraph, AnswersFile, HaveOneAnswer, byte_limit}
+use Rattle.st_ids.specs.declared.names.Names.{Names}
+use Rattle.st_shape.specs.Rules.{Drawing}
+use Rattle.st_sides.specs.Sides.{SidesValue, IsSides}
+use Rattle.st_sides.proofs.MeaningLemmas.{meaning_law}
+use Rattle.st_sides.proofs.OneValueLemmas.{one_value_law}
+use Rattle.eps_core.specs.Text.{text}
+use Rattle.draw_vis.proofs.SameLemmas.{pictures_law}
+use Rattle.stdraw_core.specs.Drawing.{one_each, file_names, IsPictureOf, Draws}
+use Rattle.stdraw_core.proofs.DrawingLemmas.{found}
 use Rattle.stdraw_core.proofs.StageLemmas.{ok, err, one_then, same_bool}
 use Rattle.stdraw_core.proofs.VerdictOne.{accepted_one}
 
@@ -41,6 +52,23 @@ same_names words ps qs h k =
     (same_name (get_or words (2 * i) []) _ _ (h.first i l) (k.first i l'))
     (same_name (get_or words (2 * i + 1) []) _ _ (h.second i l) (k.second i l')))
 
+-- the words are told apart by their first letters
+test_no_draw : codes "test" ≡ codes "draw" → ⊥
+test_no_draw e = let q : 116 ≡ 100 = ap (λ (z : List ℕ). get_or z 0 0) e in omega (arith, q)
+
+draw_no_query : codes "draw" ≡ codes "query" → ⊥
+draw_no_query e = let q : 100 ≡ 113 = ap (λ (z : List ℕ). get_or z 0 0) e in omega (arith, q)
+
+visibility_no_tessellation : codes "visibility" ∷ [] ≡ codes "tessellation" ∷ [] → ⊥
+visibility_no_tessellation e = let q : 118 ≡ 116 = ap (λ (z : List (List ℕ)). get_or (get_or z 0 []) 0 0) e in omega (arith, q)
+
+-- a form has words of its own
+same_form : (words : List (List ℕ)) (f f' : DrawForm) → AreForm words f → AreForm words f' → f ≡ f'
+same_form words Visibility Visibility h k = refl
+same_form words Visibility Tessellation h k = absurd (visibility_no_tessellation (sym h ∙ k))
+same_form words Tessellation Visibility h k = absurd (visibility_no_tessellation (sym k ∙ h))
+same_form words Tessellation Tessellation h k = refl
+
 -- a query has more than one word
 no_pairs : (name : List ℕ) (ps : List (ℤ × ℤ)) → IsCommand (name ∷ []) (Query ps) → ⊥
 no_pairs name ps h = omega (arith, h.1, h.3.size)
@@ -50,8 +78,14 @@ same_command [] c d h k = absurd h
 same_command (name ∷ []) Test Test h k = refl
 same_command (name ∷ []) Test (Query ps) h k = absurd (no_pairs name ps k)
 same_command (name ∷ []) (Query ps) Test h k = absurd (no_pairs name ps h)
+same_command (name ∷ []) Test (Draw f) h k = absurd (test_no_draw (sym h ∙ k.0))
+same_command (name ∷ []) (Draw f) Test h k = absurd (test_no_draw (sym k ∙ h.0))
 same_command (name ∷ word ∷ words) Test d h k = absurd h
 same_command (name ∷ word ∷ words) (Query ps) Test h k = absurd k
+same_command (name ∷ word ∷ words) (Draw f) Test h k = absurd k
+same_command (name ∷ words) (Draw f) (Draw f') h k = ap (λ z. Draw z) (same_form words f f' h.1 k.1)
+same_command (name ∷ words) (Draw f) (Query ps) h k = absurd (draw_no_query (sym h.0 ∙ k.0))
+same_command (name ∷ words) (Query ps) (Draw f) h k = absurd (draw_no_query (sym k.0 ∙ h.0))
 same_command (name ∷ words) (Query ps) (Query qs) h k = ap (λ (z : List (ℤ × ℤ)). Query z) (same_names words ps qs h.3 k.3)
 
 asks_err : (words : List (List ℕ)) (r : Refusal) → Asks words (Err r) → (r ≡ Words) × ((c : Command) → IsCommand words c → ⊥)
@@ -62,7 +96,7 @@ asks_err words (Shape f) h = absurd h
 asks_err words (NotSt why) h = absurd h
 asks_err words (UnknownVertex n) h = absurd h
 
-asks_one : (words : List (List ℕ)) → IsOne (Asks words)
+pub asks_one : (words : List (List ℕ)) → IsOne (Asks words)
 asks_one words (Ok c) (Ok d) h k = ok c d (same_command words c d h k)
 asks_one words (Ok c) (Err s) h k = absurd ((asks_err words s k).1 c h)
 asks_one words (Err r) (Ok d) h k = absurd ((asks_err words r h).1 d k)
@@ -77,7 +111,7 @@ few_err bytes (Shape f) h = absurd h
 few_err bytes (NotSt why) h = absurd h
 few_err bytes (UnknownVertex n) h = absurd h
 
-few_one : (bytes : List ℕ) → IsOne (IsFew bytes)
+pub few_one : (bytes : List ℕ) → IsOne (IsFew bytes)
 few_one bytes (Ok u) (Ok v) h k = refl
 few_one bytes (Ok u) (Err s) h k = let few : length bytes ≤ byte_limit = h in absurd (omega (arith, (few_err bytes s k).1))
 few_one bytes (Err r) (Ok v) h k = let few : length bytes ≤ byte_limit = k in absurd (omega (arith, (few_err bytes r h).1))
@@ -105,7 +139,7 @@ tree_err bytes (Shape f) s h k = absurd h
 tree_err bytes (NotSt why) s h k = absurd h
 tree_err bytes (UnknownVertex n) s h k = absurd h
 
-tree_one : (bytes : List ℕ) → IsOne (IsTree bytes)
+pub tree_one : (bytes : List ℕ) → IsOne (IsTree bytes)
 tree_one bytes (Ok t) (Ok u) h k = ok t u (one_tree bytes t u h k)
 tree_one bytes (Ok t) (Err s) h k = absurd (tree_apart bytes t s h k)
 tree_one bytes (Err r) (Ok u) h k = absurd (tree_apart bytes u r k h)
@@ -133,7 +167,7 @@ graph_err tree (Gml f) s h k = absurd h
 graph_err tree (NotSt why) s h k = absurd h
 graph_err tree (UnknownVertex n) s h k = absurd h
 
-graph_one : (tree : Entries) → IsOne (IsGraph tree)
+pub graph_one : (tree : Entries) → IsOne (IsGraph tree)
 graph_one tree (Ok g) (Ok g') h k = let e : Some g ≡ Some g' = sym h.1 ∙ k.1 in ok g g' (let same : g ≡ g' = cc in same)
 graph_one tree (Ok g) (Err s) h k = absurd (graph_apart tree g s h k)
 graph_one tree (Err r) (Ok g') h k = absurd (graph_apart tree g' r k h)
@@ -182,10 +216,28 @@ test_one g st (Ok a) (Ok b) h k = ok a b (h ∙ sym k)
 test_one g st (Ok a) (Err s) h k = absurd k
 test_one g st (Err r) y h k = absurd h
 
+-- ---- the drawing
+same_picture : (form : DrawForm) (x : SidesValue) → IsSides x → (N : Names) (d d' : Drawing) → IsPictureOf form x N d → IsPictureOf form x N d' → d ≡ d'
+same_picture Visibility x is N d d' h k = (pictures_law x is).one_visibility one_each N d d' h k
+same_picture Tessellation x is N d d' h k = (pictures_law x is).one_tessellation one_each N d d' h k
+
+same_drawing : (form : DrawForm) (g : InputGraph) (st : StValue) → IsPlanarSt st.map.graph st.source st.sink st.outer → (a b : List ℕ) → Draws form g st a → Draws form g st b → a ≡ b
+same_drawing form g st planar a b h k =
+    let one : h.sides ≡ k.sides = one_value_law st.map.graph st.source st.sink st.outer h.sides k.sides planar h.are.sides h.are.sizes k.are.sides k.are.sizes in
+    let here : IsSides h.sides = meaning_law st.map.graph st.source st.sink st.outer h.sides planar h.are.sides in
+    let moved : IsPictureOf form h.sides (file_names g) k.picture = subst (λ (z : SidesValue). IsPictureOf form z (file_names g) k.picture) (sym one) k.is in
+    h.told ∙ ap text (same_picture form h.sides here (file_names g) h.picture k.picture h.is moved) ∙ sym k.told
+
+draw_one : (form : DrawForm) (g : InputGraph) (st : StValue) → IsPlanarSt st.map.graph st.source st.sink st.outer → IsOne (AnswersDraw form g st)
+draw_one form g st planar (Ok a) (Ok b) h k = ok a b (same_drawing form g st planar a b h k)
+draw_one form g st planar (Ok a) (Err s) h k = absurd k
+draw_one form g st planar (Err r) y h k = absurd h
+
 -- ---- all stages
-answers_one : (c : Command) (g : InputGraph) (st : StValue) → IsOne (Answers c g st)
-answers_one (Query ps) g st = query_one ps g
-answers_one Test g st = test_one g st
+answers_one : (c : Command) (g : InputGraph) (st : StValue) → IsAccepted g (Ok st) → IsOne (Answers c g st)
+answers_one (Query ps) g st is = query_one ps g
+answers_one Test g st is = test_one g st
+answers_one (Draw form) g st is = draw_one form g st (found g st is).planar
 
 module _ (answer_same : OnePolesAnswer) where
   graph_answers_one : (c : Command) (g : InputGraph) → IsOne (AnswersGraph c g)
@@ -193,7 +245,7 @@ module _ (answer_same : OnePolesAnswer) where
 
   file_answers_one : (c : Command) (bytes : List ℕ) → IsOne (AnswersFile c bytes)
   file_answers_one c bytes = one_then (IsFew bytes) _ (few_one bytes)
-      (λ u. one_then (IsTree bytes) _ (tree_one bytes) (λ tree. one_then (IsGraph tree) (AnswersGraph c) (graph_one tree) (graph_answers_one c)))
+      (λ u _. one_then (IsTree bytes) _ (tree_one bytes) (λ tree _. one_then (IsGraph tree) (AnswersGraph c) (graph_one tree) (λ g _. graph_answers_one c g)))
 
 pub one_answer : OnePolesAnswer → HaveOneAnswer
-one_answer answer_same words bytes = one_then (Asks words) (λ command. AnswersFile command bytes) (asks_one words) (λ command. file_answers_one answer_same command bytes)
+one_answer answer_same words bytes = one_then (Asks words) (λ command. AnswersFile command bytes) (asks_one words) (λ command _. file_answers_one answer_same command bytes)

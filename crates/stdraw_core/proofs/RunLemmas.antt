@@ -8,7 +8,7 @@ use Rattle.st_port.specs.Reading.{ReadsWhole}
 use Rattle.st_port.specs.declared.port.ReadEnd.TheVariants.{TooLong}
 use Rattle.st_input.specs.declared.fault.ShapeFault.TheVariants as shape
 use Rattle.stdraw_core.specs.declared.words.Command.{Command}
-use Rattle.stdraw_core.specs.declared.words.Command.TheVariants.{Query, Test}
+use Rattle.stdraw_core.specs.declared.words.Command.TheVariants.{Query, Test, Draw}
 use Rattle.stdraw_core.specs.declared.stop.Refusal.{Refusal}
 use Rattle.stdraw_core.specs.declared.stop.Refusal.TheVariants.{Words, TooManyBytes, Gml, Shape, NotSt, UnknownVertex}
 use Rattle.stdraw_core.specs.declared.stop.Stop.{Stop}
@@ -79,6 +79,7 @@ not_accepted g = never_then TooManyBytes (HasPoles g) (λ p. Then (HasMap g) (Is
 no_answer : (command : Command) (g : InputGraph) (st : StValue) → NeverGives TooManyBytes (Answers command g st)
 no_answer (Query pairs) g st = λ h. h
 no_answer Test g st = λ h. h
+no_answer (Draw form) g st = λ h. h
 
 not_too_long : (command : Command) (bytes : List ℕ) → length bytes ≤ byte_limit → NeverGives TooManyBytes (AnswersFile command bytes)
 not_too_long command bytes few =

@@ -12,22 +12,23 @@ pub err : {A : Type 0} (r s : Refusal) → r ≡ s → (let a : Result A Refusal
 err {A} r s e = ap (λ (z : Refusal). let a : Result A Refusal = Err z in a) e
 
 -- equal answers are equal values
-same_ok : {A : Type 0} (x y : A) → (let a : Result A Refusal = Ok x in a) ≡ Ok y → x ≡ y
+pub same_ok : {A : Type 0} (x y : A) → (let a : Result A Refusal = Ok x in a) ≡ Ok y → x ≡ y
 same_ok x y h = cc
 
-same_err : {A : Type 0} (r s : Refusal) → (let a : Result A Refusal = Err r in a) ≡ Err s → r ≡ s
+pub same_err : {A : Type 0} (r s : Refusal) → (let a : Result A Refusal = Err r in a) ≡ Err s → r ≡ s
 same_err r s h = cc
 
 -- a value is no refusal
-mixed : {A : Type 0} (x : A) (r : Refusal) → (let a : Result A Refusal = Ok x in a) ≡ Err r → ⊥
+pub mixed : {A : Type 0} (x : A) (r : Refusal) → (let a : Result A Refusal = Ok x in a) ≡ Err r → ⊥
 mixed x r h = cc
 
-pub one_then : {A B : Type 0} (first : Result A Refusal → Type 0) (next : A → Result B Refusal → Type 0) → IsOne first → ((a : A) → IsOne (next a)) → IsOne (Then first next)
+-- the next stage may use that the first has found its value
+pub one_then : {A B : Type 0} (first : Result A Refusal → Type 0) (next : A → Result B Refusal → Type 0) → IsOne first → ((a : A) → first (Ok a) → IsOne (next a)) → IsOne (Then first next)
 one_then first next one_first one_next x y (refuses r h e) (refuses s k f) = e ∙ err r s (same_err r s (one_first (Err r) (Err s) h k)) ∙ sym f
 one_then first next one_first one_next x y (refuses r h e) (goes_on b k f) = absurd (mixed b r (one_first (Ok b) (Err r) k h))
 one_then first next one_first one_next x y (goes_on a h e) (refuses s k f) = absurd (mixed a s (one_first (Ok a) (Err s) h k))
 one_then first next one_first one_next x y (goes_on a h e) (goes_on b k f) =
-    one_next b x y (subst (λ z. next z x) (same_ok a b (one_first (Ok a) (Ok b) h k)) e) f
+    one_next b k x y (subst (λ z. next z x) (same_ok a b (one_first (Ok a) (Ok b) h k)) e) f
 
 -- two truth values that say the same are the same
 pub same_bool : {P : Type 0} (a b : Bool) → (IsTrue a ↔ P) → (IsTrue b ↔ P) → a ≡ b

@@ -180,4 +180,4 @@ planar_one g p m (Err r) (Err s) h k = err r s (planar_refusal_same g p m r s (p
 
 -- ---- all tests
 pub accepted_one : OnePolesAnswer → (g : InputGraph) → IsOne (IsAccepted g)
-accepted_one answer_same g = one_then (HasPoles g) (λ p. Then (HasMap g) (IsPlanar g p)) (poles_one answer_same g) (λ p. one_then (HasMap g) (IsPlanar g p) (map_one g) (planar_one g p))
+accepted_one answer_same g = one_then (HasPoles g) (λ p. Then (HasMap g) (IsPlanar g p)) (poles_one answer_same g) (λ p _. one_then (HasMap g) (IsPlanar g p) (map_one g) (λ m _. planar_one g p m))

@@ -3,8 +3,9 @@ use Rattle.std.proofs.Common.{◌≡◌, ℕ, ◌+◌, ◌*◌, ◌<◌, ◌≤�
 use Rattle.std.proofs.lemmas.List.{length_push, get_or_push, get_or_append_left, get_or-map}
 use Rattle.std.proofs.Math.Seq.{take-length}
 use Rattle.std.proofs.lemmas.Bool.{cases_lt}
-use Rattle.stdraw_core.specs.declared.words.Command.TheVariants.{Query, Test}
-use Rattle.stdraw_core.specs.Words.{IsName, AreNames, IsCommand}
+use Rattle.stdraw_core.specs.declared.words.Command.TheVariants.{Query, Test, Draw}
+use Rattle.stdraw_core.specs.declared.words.DrawForm.{DrawForm}
+use Rattle.stdraw_core.specs.Words.{IsName, AreNames, AreForm, IsCommand}
 
 -- the first i pairs of words write the names of the pairs
 pub record AreFirstNames (words : List (List ℕ)) (i : ℕ) (pairs : List (ℤ × ℤ)) : Type 0 where
@@ -70,3 +71,13 @@ query_words words names name pairs is called some few are =
 pub test_words : (words names : List (List ℕ)) (name : List ℕ) → words ≡ name ∷ names → length names ≡ 0 → name ≡ codes "test" → IsCommand words Test
 test_words words [] name is none called = subst (λ (w : List (List ℕ)). IsCommand w Test) (sym is) called
 test_words words (n ∷ names) name is none called = absurd (omega arith)
+
+-- a list with one item
+pub one_item : {X : Type 0} (xs : List X) (x : X) → 1 ≤ length xs → length xs < 2 → x ≡ get_or xs 0 x → xs ≡ x ∷ []
+one_item [] x l m is = absurd (omega arith)
+one_item {X} (y ∷ []) x l m is = ap (λ (z : X). z ∷ []) (sym is)
+one_item (y ∷ z ∷ ys) x l m is = absurd (omega arith)
+
+-- the words of a drawing
+pub draw_words : (words names : List (List ℕ)) (name : List ℕ) (form : DrawForm) → words ≡ name ∷ names → name ≡ codes "draw" → AreForm names form → IsCommand words (Draw form)
+draw_words words names name form is called are = subst (λ (w : List (List ℕ)). IsCommand w (Draw form)) (sym is) (called, are)

@@ -9,7 +9,8 @@ use Rattle.st_input.specs.InputGraph.{InputGraph}
 use Rattle.st_input.specs.Embedding.{embedded_graph}
 use Rattle.st_input.specs.FirstFault.{shape_fault}
 use Rattle.stdraw_core.specs.declared.words.Command.{Command}
-use Rattle.stdraw_core.specs.declared.words.Command.TheVariants.{Query, Test}
+use Rattle.stdraw_core.specs.declared.words.Command.TheVariants.{Query, Test, Draw}
+use Rattle.stdraw_core.specs.declared.words.DrawForm.{DrawForm}
 use Rattle.stdraw_core.specs.declared.stop.Refusal.{Refusal}
 use Rattle.stdraw_core.specs.declared.stop.Refusal.TheVariants.{Words, TooManyBytes, Gml, Shape, UnknownVertex}
 use Rattle.stdraw_core.specs.Stages.{Then, IsOne}
@@ -18,6 +19,7 @@ use Rattle.st_map.specs.Embedded.{edges, faces}
 use Rattle.st_test.specs.Planar.{StValue}
 use Rattle.stdraw_core.specs.Lines.{numbered}
 use Rattle.stdraw_core.specs.Verdict.{IsAccepted, vertex_name}
+use Rattle.stdraw_core.specs.Drawing.{Draws}
 use Rattle.stdraw_core.specs.Query.{AreKnown, IsFirstUnknown, AreLines, names_of}
 
 -- the greatest numbers of bytes of a file, of vertices and of edges
@@ -71,10 +73,16 @@ abbrev pub AnswersTest : InputGraph → StValue → Result (List ℕ) Refusal �
 AnswersTest g st (Ok out) = out ≡ test_line g st
 AnswersTest g st (Err _) = ⊥
 
+-- what a drawing answers: the text of the picture of the form
+abbrev pub AnswersDraw : DrawForm → InputGraph → StValue → Result (List ℕ) Refusal → Type 0
+AnswersDraw form g st (Ok out) = Draws form g st out
+AnswersDraw form g st (Err _) = ⊥
+
 -- what the command answers about a planar st-graph
 abbrev pub Answers : Command → InputGraph → StValue → Result (List ℕ) Refusal → Type 0
 Answers (Query pairs) g st answer = AnswersQuery pairs g answer
 Answers Test g st answer = AnswersTest g st answer
+Answers (Draw form) g st answer = AnswersDraw form g st answer
 
 -- what the command answers to a graph: the graph is tested first
 abbrev pub AnswersGraph : Command → InputGraph → Result (List ℕ) Refusal → Type 0

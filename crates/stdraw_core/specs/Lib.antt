@@ -3,8 +3,11 @@ pub mod Search
 pub mod Stages
 pub mod Words
 pub mod Query
+pub mod Drawing
 pub mod Verdict
 pub mod Answer
 pub mod Lines
+pub mod Outputs
 pub mod Stops
 pub mod Run
+pub mod Headline

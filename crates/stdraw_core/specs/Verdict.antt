@@ -5,6 +5,7 @@
 --   outer_in g m s              the end whose face is the outer one: the named one, else the first at the source
 --   IsPlanar g p m              Euler's formula, and both poles on the outer face
 --   IsAccepted g                all seven tests in their order: the planar st-graph, or the first that fails
+--   IsFound g st                st is a planar st-graph with the vertices and edges of the file's graph
 use Rattle.std.specs.Prelude.{◌≡◌, ℕ, ◌<◌, ℤ, pos, map, slice_index, slice_index_or, unwrap_or, Result, Ok, Err}
 use Rattle.st_ids.specs.declared.ids.VertexId.{VertexId}
 use Rattle.st_map.specs.Embedded.{Embedded, order}
@@ -74,3 +75,9 @@ IsPlanar g p m (Err _) = ⊥
 -- the planar st-graph of the file, or the first of the seven tests that fails
 abbrev pub IsAccepted : InputGraph → Result StValue Refusal → Type 0
 IsAccepted g = Then (HasPoles g) (λ p. Then (HasMap g) (IsPlanar g p))
+
+-- a planar st-graph with the vertices and edges of the file's graph
+pub record IsFound (g : InputGraph) (st : StValue) : Type 0 where
+  pub planar : IsPlanarSt st.map.graph st.source st.sink st.outer
+  pub vertices : st.map.graph.vertices ≡ g.graph.vertices
+  pub ends : st.map.graph.ends ≡ g.graph.ends

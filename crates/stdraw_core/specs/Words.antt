@@ -1,12 +1,15 @@
 -- What words ask for.
 --   IsName word n        the word writes the vertex name n
 --   AreNames words ps    the words write the names of the pairs, one after the other
+--   AreForm words f      the words name the form of drawing
 --   IsCommand words c    the words are a form of the command
 use Rattle.std.specs.Prelude.{◌≡◌, ℕ, ◌+◌, ◌*◌, ◌<◌, ◌≤◌, ℤ, pos, FitsSigned, List, [], ◌∷◌, length, slice_index_or, codes}
 use Rattle.std.specs.Int.{w64}
 use Rattle.std.specs.Str.Parse.{IsNumeral, signed_digits_value, without_leading_sign}
 use Rattle.stdraw_core.specs.declared.words.Command.{Command}
-use Rattle.stdraw_core.specs.declared.words.Command.TheVariants.{Query, Test}
+use Rattle.stdraw_core.specs.declared.words.Command.TheVariants.{Query, Test, Draw}
+use Rattle.stdraw_core.specs.declared.words.DrawForm.{DrawForm}
+use Rattle.stdraw_core.specs.declared.words.DrawForm.TheVariants.{Visibility, Tessellation}
 
 -- an optional sign and at least one digit, of a number in signed 64 bits
 pub record IsName (word : List ℕ) (n : ℤ) : Type 0 where
@@ -24,9 +27,19 @@ pub record AreNames (words : List (List ℕ)) (pairs : List (ℤ × ℤ)) : Type
 abbrev pub most_pairs : ℕ
 most_pairs = 1000
 
+-- the words of a form of drawing
+abbrev pub form_words : DrawForm → List (List ℕ)
+form_words Visibility = codes "visibility" ∷ []
+form_words Tessellation = codes "tessellation" ∷ []
+
+-- the words name the form
+abbrev pub AreForm : List (List ℕ) → DrawForm → Type 0
+AreForm words form = words ≡ form_words form
+
 -- the words are a form of the command
 abbrev pub IsCommand : List (List ℕ) → Command → Type 0
 IsCommand [] command = ⊥
 IsCommand (name ∷ []) Test = name ≡ codes "test"
 IsCommand (name ∷ word ∷ words) Test = ⊥
+IsCommand (name ∷ words) (Draw form) = (name ≡ codes "draw") × AreForm words form
 IsCommand (name ∷ words) (Query pairs) = (name ≡ codes "query") × (1 ≤ length pairs) × (length pairs ≤ most_pairs) × AreNames words pairs

@@ -1,13 +1,14 @@
 //! The graph of a file's bytes.
-ghost use Rattle.std.specs.Prelude.{◌<◌, ◌^◌, length, IfOk, Ok};
+ghost use Rattle.std.specs.Prelude.{◌<◌, ◌≤◌, ◌^◌, length, IfOk, Ok};
 ghost use Rattle.gml_core.specs.Views.{view};
 ghost use Rattle.gml_core.specs.Sound.{IsSound};
 ghost use Rattle.st_input.specs.InputGraph.{IsConsistent};
-ghost use Rattle.stdraw_core.specs.Answer.{IsTree, IsGraph};
+ghost use Rattle.stdraw_core.specs.Answer.{IsTree, IsGraph, vertex_limit, edge_limit};
 ghost use Rattle.stdraw_core.specs.Stops.{StopsAt};
 
 use crate::stop::{Refusal, Stop};
 use gml_core::{GmlFault, Tree, parse};
+use st_input::laws::limits_hold;
 use st_input::{GraphSpec, ShapeFault, read_graph};
 use std::alloc::Global;
 
@@ -34,8 +35,11 @@ pub fn graph_of(alloc: Global, tree: &Tree) -> Result<GraphSpec, Stop>
     requires { IsSound (view tree.now) }
     ensures ok { IfOk result (λ g. IsGraph (view tree.now) (Ok g)) }
     ensures consistent { IfOk result (λ g. IsConsistent g) }
+    ensures high { IfOk result (λ g. g.graph.vertices ≤ vertex_limit) }
+    ensures wide { IfOk result (λ g. length g.graph.ends ≤ edge_limit) }
     ensures err { StopsAt (IsGraph (view tree.now)) result }
 {
+    limits_hold();
     match read_graph(alloc, tree, MOST_VERTICES, MOST_EDGES) {
         Ok(graph) => Ok(graph),
         Err(ShapeFault::NoMemory) => Err(Stop::NoMemory),

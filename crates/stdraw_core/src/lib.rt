@@ -4,9 +4,11 @@
 //! ending, what `run` does with it over any source and sinks.
 #![tactic(auto)]
 
+mod drawing;
 mod file;
 pub mod laws;
 mod links;
+mod output;
 mod query;
 mod reach;
 mod report;
@@ -18,7 +20,7 @@ mod words;
 
 pub use stop::{NameList, NotSt, Refusal, Status, Stop};
 pub use top::run;
-pub use words::{Command, Pairs};
+pub use words::{Command, DrawForm, Pairs};
 
 #[cfg(test)]
 mod tests;

@@ -254,18 +254,6 @@ fn write_stop<D: Sink>(diag: &mut D, stop: &Stop) -> Result<(), Failed>
     }
 }
 
-/// Writes the whole text and flushes.
-pub fn emit<K: Sink>(sink: &mut K, text: &[u8]) -> Result<(), Failed>
-    ensures whole { OnOk result (Gains (K.state sink.old) (K.state sink.new) text.now) }
-    ensures flushed { OnOk result (IsTrue (K.state sink.new).is_flushed) }
-    ensures prefix { OnErr result (GainsFront (K.state sink.old) (K.state sink.new) text.now) }
-    ensures count { GoesOn (K.state sink.old).faults (K.state sink.new).faults }
-    ensures cause { OnErr result (Rose (K.state sink.old).faults (K.state sink.new).faults) }
-{
-    write_all(sink, text)?;
-    sink.flush()
-}
-
 // Writes the line that says why a run stops, and flushes.
 fn tell<D: Sink>(diag: &mut D, stop: &Stop) -> Result<(), Failed>
     ensures whole { OnOk result (Gains (D.state diag.old) (D.state diag.new) (stop_line stop.now)) }

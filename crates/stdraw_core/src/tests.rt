@@ -15,6 +15,12 @@ const CHAIN: &[u8] =
 
 const EDGE: &[u8] = b"graph [ node [ id 1 ] node [ id 2 ] edge [ source 1 target 2 ] ]\n";
 
+const CHORDS: &[u8] =
+    b"graph [ node [ id 1 ] node [ id 2 ] node [ id 3 ] node [ id 4 ] edge [ source 1 target 2 ] edge [ source 2 target 4 ] edge [ source 2 target 3 ] edge [ source 1 target 3 ] edge [ source 3 target 4 ] ]\n";
+
+const CYCLE: &[u8] =
+    b"graph [ node [ id 1 ] node [ id 2 ] node [ id 3 ] edge [ source 1 target 2 ] edge [ source 2 target 3 ] edge [ source 3 target 1 ] ]\n";
+
 // After the files of yEd.
 const NESTED: &[u8] =
     b"Creator \"yFiles\"\nVersion \"2.17\"\ngraph\n[\n  hierarchic 1\n  label \"\"\n  directed 1\n  node\n  [\n    id 0\n    label \"A\"\n    graphics\n    [\n      x 12.5\n      y 30.0\n      type \"rectangle\"\n      fill \"#FFCC00\"\n    ]\n  ]\n  node\n  [\n    id 1\n    label \"B (1)\"\n  ]\n  edge\n  [\n    source 0\n    target 1\n    graphics\n    [\n      fill \"#000000\"\n      targetArrow \"standard\"\n    ]\n  ]\n]\n";
@@ -175,7 +181,10 @@ fn refuses_other_words_and_unknown_vertices(rt: HostRuntime) -> Result<(), Fail>
         refused("query 1 2 3", DIAMOND, Status::Words, line),
         refused("query 1 x", DIAMOND, Status::Words, line),
         refused("query 1 9223372036854775808", DIAMOND, Status::Words, line),
-        refused("draw visibility", DIAMOND, Status::Words, line),
+        refused("draw", DIAMOND, Status::Words, line),
+        refused("draw polyline", DIAMOND, Status::Words, line),
+        refused("draw visibility 1", DIAMOND, Status::Words, line),
+        refused("gen 1 0", DIAMOND, Status::Words, line),
     ];
     for row in &rows {
         check(&rt, rt.alloc(), row)?;
@@ -276,6 +285,89 @@ fn tests_for_planar_st_graphs(rt: HostRuntime) -> Result<(), Fail> {
         check(&rt, rt.alloc(), row)?;
     }
     Ok(())
+}
+
+const HEADER: &str = "%%EndComments\n/Helvetica findfont 10 scalefont setfont\n1 setlinewidth 1 setlinecap\n";
+
+// What a drawing of a file has to write: the box, the title, the lines behind the header.
+struct Drawn {
+    words: &'static str,
+    file: &'static [u8],
+    title: &'static str,
+    lines: &'static str,
+}
+
+const DRAWN: [Drawn; 4] = [
+    Drawn {
+        words: "draw visibility",
+        file: EDGE,
+        title: "%%BoundingBox: 0 0 72 96\n%%Title: visibility\n",
+        lines: "%v 1\nnewpath 36 36 moveto 36 36 lineto stroke\n%v 2\nnewpath 36 60 moveto 36 60 lineto stroke\n%e 0 1 2\nnewpath 36 36 moveto 36 60 lineto stroke\n%%EOF\n",
+    },
+    Drawn {
+        words: "draw visibility",
+        file: NESTED,
+        title: "%%BoundingBox: 0 0 72 96\n%%Title: visibility\n",
+        lines: "%v 0\nnewpath 36 36 moveto 36 36 lineto stroke\n%v 1\nnewpath 36 60 moveto 36 60 lineto stroke\n%e 0 0 1\nnewpath 36 36 moveto 36 60 lineto stroke\n%l 0\n42 42 moveto (A) show\n%l 1\n42 66 moveto (B \\(1\\)) show\n%%EOF\n",
+    },
+    Drawn {
+        words: "draw visibility",
+        file: CHORDS,
+        title: "%%BoundingBox: 0 0 120 144\n%%Title: visibility\n",
+        lines: "%v 1\nnewpath 36 36 moveto 84 36 lineto stroke\n%v 2\nnewpath 36 60 moveto 60 60 lineto stroke\n%v 3\nnewpath 60 84 moveto 84 84 lineto stroke\n%v 4\nnewpath 36 108 moveto 84 108 lineto stroke\n%e 0 1 2\nnewpath 36 36 moveto 36 60 lineto stroke\n%e 1 2 4\nnewpath 36 60 moveto 36 108 lineto stroke\n%e 2 2 3\nnewpath 60 60 moveto 60 84 lineto stroke\n%e 3 1 3\nnewpath 84 36 moveto 84 84 lineto stroke\n%e 4 3 4\nnewpath 60 84 moveto 60 108 lineto stroke\n%%EOF\n",
+    },
+    Drawn {
+        words: "draw tessellation",
+        file: EDGE,
+        title: "%%BoundingBox: 0 0 96 96\n%%Title: tessellation\n",
+        lines: "%v 1\nnewpath 36 36 moveto 60 36 lineto stroke\n%v 2\nnewpath 36 60 moveto 60 60 lineto stroke\n%e 0 1 2\nnewpath 36 36 moveto 60 36 lineto 60 60 lineto 36 60 lineto closepath stroke\n%f 0\nnewpath 36 36 moveto 36 60 lineto stroke\n%f 1\nnewpath 60 36 moveto 60 60 lineto stroke\n%%EOF\n",
+    },
+];
+
+#[test]
+fn draws_to_exact_bytes(rt: HostRuntime) -> Result<(), Fail> {
+    let alloc = rt.alloc();
+    for row in &DRAWN {
+        let words = words_of(alloc, row.words)?;
+        let mut src = MemSource::new(alloc, row.file, 1, &[])?;
+        let mut out = MemSink::new(alloc, 1000, 0, &[])?;
+        let mut diag = MemSink::new(alloc, 100, 0, &[])?;
+        let status = run(alloc, &words, &mut src, &mut out, &mut diag);
+        assert_eq!(rt; status, Status::Done, "{}", row.words);
+        let mut text = Text::new(alloc);
+        text.append(b"%!PS-Adobe-3.0 EPSF-3.0\n")?;
+        text.append(row.title.as_bytes())?;
+        text.append(HEADER.as_bytes())?;
+        text.append(row.lines.as_bytes())?;
+        assert_eq!(rt; out.taken(), text.bytes(), "{}", row.words);
+        assert_eq!(rt; diag.taken(), b"".as_slice(), "{}", row.words);
+    }
+    Ok(())
+}
+
+#[test]
+fn stops_a_drawing_at_a_failed_write(rt: HostRuntime) -> Result<(), Fail> {
+    let alloc = rt.alloc();
+    let words = words_of(alloc, "draw visibility")?;
+    let mut src = MemSource::new(alloc, EDGE, 0, &[])?;
+    let mut out = MemSink::new(alloc, 1000, 7, &[3])?;
+    let mut diag = MemSink::new(alloc, 100, 0, &[])?;
+    assert_eq!(rt;
+        run(alloc, &words, &mut src, &mut out, &mut diag),
+        Status::WriteFault
+    );
+    assert_eq!(rt; out.taken(), b"%!PS-Adobe-3.0".as_slice());
+    assert_eq!(rt; diag.taken(), b"write fault\n".as_slice());
+    check(
+        &rt,
+        alloc,
+        &refused(
+            "draw visibility",
+            CYCLE,
+            Status::NotSt,
+            b"not st: cycle: 0 1 2\n",
+        ),
+    )
 }
 
 #[test]

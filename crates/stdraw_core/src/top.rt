@@ -3,14 +3,17 @@ ghost use Rattle.std.specs.Prelude.{◌≡◌, ◌≢◌, ◌≤◌, ◌<◌, le
 ghost use Rattle.std.specs.String.{string_bytes};
 ghost use Rattle.st_port.specs.Faults.{GoesOn};
 ghost use Rattle.st_input.specs.InputGraph.{IsConsistent};
-ghost use Rattle.st_input.specs.Names.{AreDifferent};
-ghost use Rattle.stdraw_core.specs.Answer.{Answers, AnswersGraph, AnswersFile, byte_limit};
+ghost use Rattle.stdraw_core.specs.Answer.{Answers, AnswersGraph, AnswersFile, byte_limit, vertex_limit, edge_limit};
 ghost use Rattle.stdraw_core.specs.Run.{Decides, EndsBy};
 ghost use Rattle.stdraw_core.specs.Stops.{Gives};
+ghost use Rattle.stdraw_core.specs.Verdict.{IsFound};
+ghost use Rattle.stdraw_core.specs.Headline.{Headline};
 
+use crate::drawing::answer_draw;
 use crate::file::{graph_of, tree_of};
+use crate::output::Output;
 use crate::query::answer_query;
-use crate::report::{emit, report};
+use crate::report::report;
 use crate::stop::{Refusal, Status, Stop};
 use crate::tested::answer_test;
 use crate::verdict::accept;
@@ -19,9 +22,20 @@ use st_ids::{NoMemory, Text};
 use st_input::GraphSpec;
 use st_port::{Failed, ReadEnd, Sink, Source, read_all};
 use st_test::StGraph;
+use st_test::laws::one_poles_answer;
 use std::alloc::Global;
 
 const MOST_BYTES: usize = 16_777_216;
+
+// The text as an output.
+fn as_output(answer: Result<Text, Stop>) -> Result<Output, Stop>
+    ensures { result ≡ answer }
+{
+    match answer {
+        Ok(text) => Ok(Output::text(text)),
+        Err(stop) => Err(stop),
+    }
+}
 
 // What the command answers about a planar st-graph.
 fn answer_command(
@@ -29,20 +43,25 @@ fn answer_command(
     command: &Command,
     spec: &GraphSpec,
     graph: &StGraph,
-) -> Result<Text, Stop>
-    requires different { AreDifferent spec.now.vertex_names }
-    requires names { length spec.now.vertex_names ≡ graph.now.map.graph.vertices }
+) -> Result<Output, Stop>
+    requires tables { IsConsistent spec.now }
+    requires found { IsFound spec.now graph.now }
+    requires high { spec.now.graph.vertices ≤ vertex_limit }
+    requires wide { length spec.now.graph.ends ≤ edge_limit }
     ensures { Gives (Answers command.now spec.now graph.now) result }
 {
     match command {
-        Command::Query(pairs) => answer_query(alloc, spec, pairs.items()),
-        Command::Test => answer_test(alloc, spec, graph),
+        Command::Query(pairs) => as_output(answer_query(alloc, spec, pairs.items())),
+        Command::Test => as_output(answer_test(alloc, spec, graph)),
+        Command::Draw(form) => answer_draw(alloc, *form, spec, graph),
     }
 }
 
 // What the command answers to a graph.
-fn answer_graph(alloc: Global, command: &Command, spec: &GraphSpec) -> Result<Text, Stop>
-    requires { IsConsistent spec.now }
+fn answer_graph(alloc: Global, command: &Command, spec: &GraphSpec) -> Result<Output, Stop>
+    requires tables { IsConsistent spec.now }
+    requires high { spec.now.graph.vertices ≤ vertex_limit }
+    requires wide { length spec.now.graph.ends ≤ edge_limit }
     ensures { Gives (AnswersGraph command.now spec.now) result }
 {
     let graph = match accept(alloc, spec) {
@@ -53,7 +72,7 @@ fn answer_graph(alloc: Global, command: &Command, spec: &GraphSpec) -> Result<Te
 }
 
 // What the command answers to the bytes of a file.
-fn answer_file(alloc: Global, command: &Command, bytes: &[u8]) -> Result<Text, Stop>
+fn answer_file(alloc: Global, command: &Command, bytes: &[u8]) -> Result<Output, Stop>
     requires { length bytes.now ≤ byte_limit }
     ensures { Gives (AnswersFile command.now bytes.now) result }
 {
@@ -69,7 +88,7 @@ fn answer_file(alloc: Global, command: &Command, bytes: &[u8]) -> Result<Text, S
 }
 
 // What is answered to the words and to what the source has left.
-fn decide<S: Source>(alloc: Global, words: &[String], src: &mut S) -> Result<Text, Stop>
+fn decide<S: Source>(alloc: Global, words: &[String], src: &mut S) -> Result<Output, Stop>
     ensures decides { Decides (map string_bytes words.now) (S.state src.old) (S.state src.new) result }
     ensures words { IsErrOf result (Stop.Refused Refusal.Words) → src.new ≡ src.old }
     ensures count { GoesOn (S.state src.old).faults (S.state src.new).faults }
@@ -88,15 +107,8 @@ fn decide<S: Source>(alloc: Global, words: &[String], src: &mut S) -> Result<Tex
     answer_file(alloc, &command, text.bytes())
 }
 
-/// Reads what the words ask for, and writes the answer to `out`, or why there is none to `diag`.
-///
-/// Everything is computed before the first byte is written; the writing takes no memory. The output is flushed with
-/// `Done`, the diagnostic line with every other status. A fault of `diag` changes nothing.
-///
-/// Errors: each status of `Status` but those of commands that are not built yet.
-/// Cost: near linear time in the file, and for `query` O(V + E) for each pair besides; for each pair of the file about
-/// 100 to 170 bytes of memory, and the file itself. Not proved.
-pub fn run<S: Source, K: Sink, D: Sink>(
+// Answers, writes and reports.
+fn perform<S: Source, K: Sink, D: Sink>(
     alloc: Global,
     words: &[String],
     src: &mut S,
@@ -116,10 +128,44 @@ pub fn run<S: Source, K: Sink, D: Sink>(
     ensures diagnostic { GoesOn (D.state diag.old).faults (D.state diag.new).faults }
 {
     match decide(alloc, words, src) {
-        Ok(text) => match emit(out, text.bytes()) {
+        Ok(output) => match output.emit(out) {
             Ok(()) => Status::Done,
             Err(Failed) => report(diag, &Stop::WriteFault),
         },
         Err(stop) => report(diag, &stop),
     }
+}
+
+/// Reads what the words ask for, and writes the answer to `out`, or why there is none to `diag`.
+///
+/// Everything is computed before the first byte is written; the writing takes no memory. The output is flushed with
+/// `Done`, the diagnostic line with every other status. A fault of `diag` changes nothing.
+///
+/// Errors: each status of `Status` but those of commands that are not built yet.
+/// Cost: near linear time in the file, and for `query` O(V + E) for each pair besides; for each pair of the file about
+/// 100 to 170 bytes of memory, and the file itself. Not proved.
+pub fn run<S: Source, K: Sink, D: Sink>(
+    alloc: Global,
+    words: &[String],
+    src: &mut S,
+    out: &mut K,
+    diag: &mut D,
+) -> Status
+    ensures ending { EndsBy (map string_bytes words.now) (S.state src.old) (S.state src.new) (K.state out.old) (K.state out.new) (D.state diag.old) (D.state diag.new) result }
+
+    // The promise of every drawing.
+    ensures headline { Headline (map string_bytes words.now) (S.state src.old) (S.state src.new) (K.state out.old) (K.state out.new) result }
+
+    // What is left as it was.
+    ensures words { result ≡ Status.Words → src.new ≡ src.old }
+    ensures untouched { result ≢ Status.Done → result ≢ Status.WriteFault → out.new ≡ out.old }
+    ensures quiet { result ≡ Status.Done → diag.new ≡ diag.old }
+
+    // Counts of faults never fall.
+    ensures source { GoesOn (S.state src.old).faults (S.state src.new).faults }
+    ensures output { GoesOn (K.state out.old).faults (K.state out.new).faults }
+    ensures diagnostic { GoesOn (D.state diag.old).faults (D.state diag.new).faults }
+{
+    one_poles_answer();
+    perform(alloc, words, src, out, diag)
 }

@@ -1,7 +1,7 @@
 //! The words of a command line, and the command that they ask for.
 ghost use Rattle.std.specs.Prelude.{◌≡◌, ℤ, ◌+◌, ◌<◌, ◌≤◌, ◌^◌, ◌∷◌, ◌++◌, [], List, length, map, IfOk, OnOk, OnErr, IfSome, IfNone, MatchOption, Ok};
 ghost use Rattle.std.specs.String.{string_bytes};
-ghost use Rattle.stdraw_core.specs.Words.{IsName, AreNames, IsCommand, most_pairs};
+ghost use Rattle.stdraw_core.specs.Words.{IsName, AreNames, AreForm, IsCommand, most_pairs};
 
 use st_ids::NoMemory;
 use std::alloc::Global;
@@ -52,6 +52,15 @@ impl Pairs {
     }
 }
 
+/// How a graph is drawn.
+#[derive(Clone, Copy)]
+pub enum DrawForm {
+    /// Level bars for vertices, upright lines for edges.
+    Visibility,
+    /// Boxes for edges, which tile the frame.
+    Tessellation,
+}
+
 /// What the words of a command line ask for.
 #[derive(Drop)]
 pub enum Command {
@@ -59,6 +68,8 @@ pub enum Command {
     Query(Pairs),
     /// Whether the graph is a planar st-graph.
     Test,
+    /// A drawing of the graph.
+    Draw(DrawForm),
 }
 
 // The vertex name that a word writes.
@@ -89,6 +100,22 @@ fn pairs_of(alloc: Global, words: &[String]) -> Result<Option<Pairs>, NoMemory>
     Ok(Some(pairs))
 }
 
+// The form of drawing that the words name.
+fn form_of(words: &[String]) -> Option<DrawForm>
+    ensures { MatchOption result ((form : DrawForm) → ¬ AreForm (map string_bytes words.now) form) (λ form. AreForm (map string_bytes words.now) form) }
+{
+    let [word] = words else {
+        return None;
+    };
+    if word.as_str() == "visibility" {
+        return Some(DrawForm::Visibility);
+    }
+    if word.as_str() == "tessellation" {
+        return Some(DrawForm::Tessellation);
+    }
+    None
+}
+
 /// The command that the words ask for; `None` where they are no form of a command.
 ///
 /// Cost: one pass over the words, one list of pairs.
@@ -100,6 +127,12 @@ pub fn command_of(alloc: Global, words: &[String]) -> Result<Option<Command>, No
     };
     if name.as_str() == "test" && names.is_empty() {
         return Ok(Some(Command::Test));
+    }
+    if name.as_str() == "draw" {
+        return match form_of(names) {
+            Some(form) => Ok(Some(Command::Draw(form))),
+            None => Ok(None),
+        };
     }
     if name.as_str() != "query" || names.is_empty() || names.len() > 2 * MOST_PAIRS {
         return Ok(None);

@@ -1,5 +1,6 @@
-use Rattle.stdraw_core.proofs.RunLemmas.{stopped}
+use Rattle.stdraw_core.proofs.HeadlineLemmas.{headline, as_before}
 use Rattle.stdraw_core.proofs.top.run.Goals as goal
 
-pub returns-clause-ending : goal.returns-clause-ending
-returns-clause-ending g c = rw c.report-in-Err.ensures.status (stopped _ _ _ _ _ _ c.in-Err.stop c.in-Err.ensures.decides c.report-in-Err.ensures.line)
+pub returns-clause-headline : goal.returns-clause-headline
+returns-clause-headline g c =
+    headline c.one_poles_answer.ensures _ _ _ _ _ _ _ c.perform.result c.perform.ensures.ending (λ n m. as_before g.K.Sink.state _ _ (c.perform.ensures.untouched n m))

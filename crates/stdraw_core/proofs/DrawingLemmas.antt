@@ -1,0 +1,121 @@
+-- What a drawing needs of an accepted graph, and what follows for its output.
+use Rattle.std.proofs.Common.{◌≡◌, ℕ, zero, suc, ◌+◌, ◌<◌, ◌≤◌, List, [], ◌∷◌, length, get_or, slice_get, Option, Some, None, ℤ, pos, refl, sym, ap, ◌∙◌, subst, arith}
+use Rattle.std.specs.Prelude.{slice_index_or, Result, Ok, Err, IfOk}
+use Rattle.std.specs.List.{All, AllByRecursion}
+use Rattle.std.proofs.lemmas.List.Elements.{All-get_or}
+use Rattle.std.proofs.lemmas.Option.{slice_get-get_or}
+use Rattle.st_ids.specs.declared.names.Names.{Names}
+use Rattle.st_map.specs.Embedded.{Embedded}
+use Rattle.st_test.specs.Planar.{IsPlanarSt, StValue}
+use Rattle.st_sides.specs.Sides.{SidesValue, edge_count}
+use Rattle.st_sides.specs.SidesOf.{IsSidesOf}
+use Rattle.st_picture.specs.Naming.{AreNames, IsLabelText, vertex_name, label_text}
+use Rattle.st_input.specs.InputGraph.{InputGraph, IsConsistent, IsLabel, IsShown}
+use Rattle.stdraw_core.specs.declared.stop.Refusal.{Refusal}
+use Rattle.stdraw_core.specs.Stages.{refuses, goes_on}
+use Rattle.stdraw_core.specs.Verdict.{IsAccepted, IsFound}
+use Rattle.st_ids.specs.declared.ids.EdgeId.{EdgeId}
+use Rattle.st_ids.specs.Walks.{Arcs, Walk, stay, step}
+use Rattle.st_shape.specs.Rules.{Drawing, IsPrintable}
+use Rattle.st_number.specs.Weighing.{WeightsValue, IsLawful}
+use Rattle.st_number.specs.Greatest.{weigh, IsGreatest}
+use Rattle.draw_vis.specs.Numbers.{AreNumbers}
+use Rattle.draw_vis.specs.Visibility.{IsVisibility, IsVisibilityBy}
+use Rattle.draw_vis.specs.Tessellation.{IsTessellation, IsTessellationBy}
+use Rattle.stdraw_core.specs.Drawing.{file_names, one_each}
+
+mixed : (x : StValue) (r : Refusal) → (let a : Result StValue Refusal = Ok x in a) ≡ Err r → ⊥
+mixed x r h = cc
+
+pub found : (g : InputGraph) (st : StValue) → IsAccepted g (Ok st) → IsFound g st
+found g st (refuses r h e) = absurd (mixed st r e)
+found g st (goes_on p h (refuses r k e)) = absurd (mixed st r e)
+found g st (goes_on p h (goes_on m k planar)) = record {
+  planar = subst (λ (z : StValue). IsPlanarSt z.map.graph z.source z.sink z.outer) (sym planar.1) planar.0;
+  vertices = ap (λ (z : StValue). z.map.graph.vertices) planar.1 ∙ ap (λ (z : Embedded). z.vertices) k.0;
+  ends = ap (λ (z : StValue). z.map.graph.ends) planar.1 ∙ ap (λ (z : Embedded). z.ends) k.0;
+}
+
+-- ---- names
+all_by_place : (P : ℕ → Type 0) (xs : List ℕ) → ((i : ℕ) → i < length xs → P (get_or xs i 0)) → AllByRecursion P xs
+all_by_place P [] each = tt
+all_by_place P (x ∷ xs) each = (each 0 (omega arith), all_by_place P xs (λ i l. each (suc i) (omega arith)))
+
+label_prints : (text : List ℕ) → IsLabel text → IsLabelText text
+label_prints text h = (h.0, h.1, all_by_place IsPrintable text (λ i l. All-get_or IsShown text i 0 l h.2))
+
+-- the names of a file are names for its sides
+pub names_meet : (g : InputGraph) (st : StValue) (x : SidesValue) → IsConsistent g → IsFound g st → IsSidesOf st.map.graph st.source st.sink st.outer x → AreNames x (file_names g)
+unfolding vertex_name label_text edge_count
+names_meet g st x tables is of =
+    let n : x.vertices ≡ g.graph.vertices = of.vertices ∙ is.vertices in
+    let named : length g.vertex_names ≡ g.graph.vertices = tables.vertex_names in
+    let shown : length g.labels ≡ g.graph.vertices = tables.labels in
+    record {
+      vertices = tables.vertex_names ∙ sym n;
+      edges = tables.edge_names ∙ sym (ap length (of.ends ∙ is.ends));
+      labels = tables.labels ∙ sym n;
+      differ = λ u v lu lv e. tables.different u v (get_or g.vertex_names v (pos 0))
+          (slice_get-get_or g.vertex_names u (pos 0) (omega arith) ∙ ap (λ (z : ℤ). Some z) e) (slice_get-get_or g.vertex_names v (pos 0) (omega arith));
+      texts = λ v text lv e. label_prints text (tables.shown v text (slice_get-get_or g.labels v None (omega arith) ∙ ap (λ (z : Option (List ℕ)). Some z) e));
+    }
+
+-- ---- weights
+-- equal weights of the arcs give equal weights of walks
+same_weigh : {D : Arcs} (w w' : ℕ → ℕ) → ((e : ℕ) → e < D.count → w e ≡ w' e) → {u v : ℕ} {es : List ℕ} → Walk D u es v → weigh w es ≡ weigh w' es
+same_weigh w w' same (stay q) = refl
+same_weigh w w' same (step {e = e} {es = es} l f rest) = ap (λ z. z + weigh w es) (same e l) ∙ ap (λ z. w' e + z) (same_weigh w w' same rest)
+
+same_greatest : {D : Arcs} (w w' : ℕ → ℕ) → ((e : ℕ) → e < D.count → w e ≡ w' e) → (a v n : ℕ) → IsGreatest D w a v n → IsGreatest D w' a v n
+same_greatest w w' same a v n h = record {
+  way = h.way;
+  walk = h.walk;
+  weighs = sym (same_weigh w w' same h.walk) ∙ h.weighs;
+  most = λ es r. subst (λ z. z ≤ n) (same_weigh w w' same r) (h.most es r);
+}
+
+same_numbers : (x : SidesValue) (w w' y c : ℕ → ℕ) → ((e : ℕ) → e < edge_count x → w e ≡ w' e) → AreNumbers x w y c → AreNumbers x w' y c
+same_numbers x w w' y c same h = record { height = λ v l. same_greatest w w' same x.source v (y v) (h.height v l); column = h.column }
+
+-- the picture under answers that are all 1
+pub visibility_by_ones : (post : EdgeId → ℕ → Type 0) (x : SidesValue) (N : Names) (d : Drawing) → ((e : EdgeId) (n : ℕ) → e.0 < edge_count x → post e n → n ≡ 1)
+    → IsVisibilityBy post x N d → IsVisibility x one_each N d
+visibility_by_ones post x N d ones h = record {
+  y = h.picture.y;
+  c = h.picture.c;
+  numbers = same_numbers x h.weight one_each h.picture.y h.picture.c (λ e l. ones (record { 0 = e }) (h.weight e) l (h.taken e l)) h.picture.numbers;
+  is = h.picture.is;
+}
+
+pub tessellation_by_ones : (post : EdgeId → ℕ → Type 0) (x : SidesValue) (N : Names) (d : Drawing) → ((e : EdgeId) (n : ℕ) → e.0 < edge_count x → post e n → n ≡ 1)
+    → IsTessellationBy post x N d → IsTessellation x one_each N d
+tessellation_by_ones post x N d ones h = record {
+  y = h.picture.y;
+  c = h.picture.c;
+  numbers = same_numbers x h.weight one_each h.picture.y h.picture.c (λ e l. ones (record { 0 = e }) (h.weight e) l (h.taken e l)) h.picture.numbers;
+  is = h.picture.is;
+}
+
+-- a lawful closure with 1 as its greatest weight answers 1
+pub all_ones : {F : Type 0} (pre : F → EdgeId → Type 0) (post : F → EdgeId → ℕ → Type 0) (w : WeightsValue F) → IsLawful pre post w → w.most ≡ 1 → (m : ℕ) → w.edges ≡ m
+    → (e : EdgeId) (n : ℕ) → e.0 < m → post w.closure e n → n ≡ 1
+all_ones pre post w lawful one m count e n l h =
+    let there : e.0 < w.edges = omega arith in
+    let low : 1 ≤ n = lawful.from_one e n there h in
+    let high : n ≤ w.most = lawful.to_most e n there h in
+    omega arith
+
+pub if_ok : {A E : Type 0} {P Q : A → Type 0} (r : Result A E) → IfOk r P → ((a : A) → P a → Q a) → IfOk r Q
+if_ok (Ok a) h f = f a h
+if_ok (Err e) h f = tt
+
+-- ---- the numbers of a picture
+pub names_are : (g : InputGraph) (N : Names) → N.vertex ≡ g.vertex_names → N.edge ≡ g.edge_names → N.label ≡ g.labels → N ≡ file_names g
+names_are g N v e l =
+    ap (λ (z : List ℤ). let r : Names = record { vertex = z; edge = N.edge; label = N.label } in r) v
+    ∙ ap (λ (z : List ℤ). let r : Names = record { vertex = g.vertex_names; edge = z; label = N.label } in r) e
+    ∙ ap (λ (z : List (Option (List ℕ))). let r : Names = record { vertex = g.vertex_names; edge = g.edge_names; label = z } in r) l
+
+pub edges_within : (g : InputGraph) (st : StValue) (x : SidesValue) → IsFound g st → IsSidesOf st.map.graph st.source st.sink st.outer x → (n : ℕ) → length g.graph.ends ≤ n → edge_count x ≤ n
+unfolding edge_count
+edges_within g st x is of n few = let q : length x.ends ≡ length g.graph.ends = ap length (of.ends ∙ is.ends) in omega arith

@@ -1,0 +1,50 @@
+-- What is promised of every drawing.
+-- Letters: g graph of the file, st planar st-graph.
+--   IsPlanarFile bytes g st     the bytes are those of a planar st-graph within the limits
+--   IsDrawnFile                 the text of a right picture of it was written
+--   HeadlineFor                 a drawing is written exactly where the file has a planar st-graph, and it is a right one
+--   Headline                    so it is for each form, where nothing outside has failed
+use Rattle.std.specs.Prelude.{◌≡◌, ◌≢◌, ◌≤◌, ℕ, List, length, Some, Ok}
+use Rattle.gml_core.specs.Trees.{Entries}
+use Rattle.gml_core.specs.Reading.{IsText}
+use Rattle.st_input.specs.InputGraph.{InputGraph}
+use Rattle.st_port.specs.Faults.{Rose}
+use Rattle.st_port.specs.Streams.{SourceState, SinkState, Gains}
+use Rattle.st_test.specs.Planar.{StValue}
+use Rattle.stdraw_core.specs.declared.words.Command.TheVariants.{Draw}
+use Rattle.stdraw_core.specs.declared.words.DrawForm.{DrawForm}
+use Rattle.stdraw_core.specs.declared.stop.Status.{Status}
+use Rattle.stdraw_core.specs.declared.stop.Status.TheVariants as status
+use Rattle.stdraw_core.specs.Answer.{IsGraph, byte_limit}
+use Rattle.stdraw_core.specs.Drawing.{ShowsFile}
+use Rattle.stdraw_core.specs.Verdict.{IsAccepted}
+use Rattle.stdraw_core.specs.Words.{IsCommand}
+
+-- the bytes are the text of a tree that has a graph within the limits, and this is a planar st-graph
+pub record IsPlanarFile (bytes : List ℕ) (g : InputGraph) (st : StValue) : Type 0 where
+  pub few : length bytes ≤ byte_limit
+  pub tree : Entries
+  pub text : IsText bytes tree
+  pub graph : IsGraph tree (Ok g)
+  pub planar : IsAccepted g (Ok st)
+
+-- the text of a right picture of the file's graph was written
+pub record IsDrawnFile (form : DrawForm) (bytes : List ℕ) (old new : SinkState) : Type 0 where
+  pub g : InputGraph
+  pub st : StValue
+  pub file : IsPlanarFile bytes g st
+  pub out : List ℕ
+  pub shows : ShowsFile form g st out
+  pub gains : Gains old new out
+
+-- Each file of a planar st-graph is drawn. A drawing is written for no other file, and it is a right one. Where there is no
+-- drawing, nothing is written.
+pub record HeadlineFor (form : DrawForm) (bytes : List ℕ) (old new : SinkState) (s : Status) : Type 0 where
+  pub drawn : (g : InputGraph) (st : StValue) → IsPlanarFile bytes g st → s ≡ status.Done
+  pub right : s ≡ status.Done → IsDrawnFile form bytes old new
+  pub nothing : s ≢ status.Done → new ≡ old
+
+-- It is so for the words of each form, where memory sufficed, and neither the source nor the output had a fault.
+abbrev pub Headline : List (List ℕ) → SourceState → SourceState → SinkState → SinkState → Status → Type 0
+Headline words src src' out out' s = (form : DrawForm) (bytes : List ℕ) → IsCommand words (Draw form) → src.left ≡ Some bytes
+    → s ≢ status.NoMemory → ¬ Rose src.faults src'.faults → ¬ Rose out.faults out'.faults → HeadlineFor form bytes out out' s
