@@ -4,6 +4,7 @@
 #   NAME.words   the words, `query 1 1` where it isn't there
 #   NAME.out     the whole output: then the status is 0 and no line is written
 #   NAME.line    the diagnostic line: then the output is empty, and the status is the line's
+#   NAME.FORM.eps   what `draw FORM` writes, with a space for each `_` of FORM
 # Ends with 0 where all agree, and where the program isn't built. STDRAW names another program to be asked, by its whole
 # path.
 top=$(CDPATH='' cd "$(dirname "$0")/.." && pwd) || exit 1
@@ -65,6 +66,18 @@ for file in "$top"/examples/*.gml "$top"/examples/from/*.gml; do
     cmp -s "$work/line" "$work/wanted.line" || say "$name has another diagnostic line"
     [ "$(wc -c <"$file")" -lt 1024 ] || say "$name is not below a kilobyte"
     grep -q "^| \`$name.gml\` " "$top/examples/README.md" || say "$name.gml has no line in examples/README.md"
+done
+for wanted in "$top"/examples/*.eps; do
+    [ -e "$wanted" ] || continue
+    name=$(basename "$wanted" .eps)
+    form=$(echo "${name#*.}" | tr _ ' ')
+    # A form may be two words.
+    # shellcheck disable=SC2086
+    "$program" draw $form <"$top/examples/${name%%.*}.gml" >"$work/out" 2>"$work/line"
+    got=$?
+    tried=$((tried + 1))
+    [ "$got" = 0 ] || say "draw $form of ${name%%.*} ends with $got"
+    cmp -s "$work/out" "$wanted" || say "draw $form of ${name%%.*} writes something else"
 done
 echo "check_examples: $tried files tried"
 exit $failed
