@@ -1,20 +1,19 @@
--- Items of a tessellation from their parts, and one item more.
---   bar_of, box_of, post_of      the items that have these numbers
+-- Items of a tessellation from their parts, and how many there are.
+--   bar_of, box_of               the items that have these numbers
 --   vertex_named, edge_named     what the tables of names have
---   one_more                     a list of items with one more behind
---   added                        how many there are
-use Rattle.std.proofs.Common.{ℕ, zero, suc, [], ◌∷◌, ◌++◌, ◌≡◌, ◌+◌, refl, sym, ap, ◌∙◌, arith, append_assoc, length, slice_get, Some, ℤ, pos}
+--   added                        how many items there are when some are added
+use Rattle.std.proofs.Common.{ℕ, zero, suc, [], ◌∷◌, ◌++◌, ◌≡◌, ◌+◌, refl, sym, ap, arith, length, slice_get, Some, ℤ, pos}
 use Rattle.std.proofs.lemmas.Option.{get_or_from_slice_get}
 use Rattle.std.proofs.lemmas.List.{length-append}
 use Rattle.st_ids.specs.declared.names.Names.{Names}
 use Rattle.st_shape.specs.declared.item.Item.{Item}
-use Rattle.st_shape.specs.declared.item.Item.TheVariants.{Bar, Rect, Face}
+use Rattle.st_shape.specs.declared.item.Item.TheVariants.{Bar, Rect}
 use Rattle.st_shape.specs.declared.point.Point.{Point}
 use Rattle.st_shape.specs.Rules.{Drawing}
-use Rattle.st_sides.specs.Sides.{SidesValue, edge_tail, edge_head, face_left, face_right, left_of, right_of, low, high}
+use Rattle.st_sides.specs.Sides.{SidesValue, edge_tail, edge_head, face_left, face_right, left_of, right_of}
 use Rattle.st_picture.specs.Items.{at, each}
 use Rattle.st_picture.specs.Naming.{vertex_name, edge_name}
-use Rattle.draw_vis.specs.Tessellation.{full_bar, box, post}
+use Rattle.draw_vis.specs.Tessellation.{full_bar, box}
 
 -- ---- items
 pub bar_of : (g : SidesValue) (N : Names) (y c : ℕ → ℕ) (v : ℕ) (n h a b : ℤ) → n ≡ vertex_name N v → h ≡ pos (y v) → a ≡ pos (c (left_of g v)) → b ≡ pos (c (right_of g v)) → Bar n h a b ≡ full_bar g N y c v
@@ -22,9 +21,6 @@ bar_of g N y c v n h a b p q r s = λ i. Bar (p i) (q i) (r i) (s i)
 
 pub box_of : (g : SidesValue) (N : Names) (y c : ℕ → ℕ) (e : ℕ) (n t h : ℤ) (a b : Point) → n ≡ edge_name N e → t ≡ vertex_name N (edge_tail g e) → h ≡ vertex_name N (edge_head g e) → a ≡ at (c (face_left g e)) (y (edge_tail g e)) → b ≡ at (c (face_right g e)) (y (edge_head g e)) → Rect n t h a b ≡ box g N y c e
 box_of g N y c e n t h a b p q r s u = λ i. Rect (p i) (q i) (r i) (s i) (u i)
-
-pub post_of : (g : SidesValue) (y c : ℕ → ℕ) (f : ℕ) (x a b : ℤ) → x ≡ pos (c f) → a ≡ pos (y (low g f)) → b ≡ pos (y (high g f)) → Face f x a b ≡ post g y c f
-post_of g y c f x a b p q r = λ i. Face f (p i) (q i) (r i)
 
 -- ---- names
 pub vertex_named : (N : Names) (v : ℕ) (n : ℤ) → slice_get N.vertex v ≡ Some n → n ≡ vertex_name N v
@@ -36,13 +32,7 @@ unfolding edge_name
 edge_named N e n q = sym (get_or_from_slice_get N.edge e n (pos 0) q)
 
 -- ---- lists of items
-pub one_more : (d : Drawing) (f : ℕ → Item) (k : ℕ) (d' d'' : Drawing) (x : Item) → d' ≡ record d { items = d.items ++ each f k } → d'' ≡ record d' { items = d'.items ++ x ∷ [] } → x ≡ f k → d'' ≡ record d { items = d.items ++ each f (suc k) }
-one_more d f k d' d'' x p q r =
-    q ∙ ap (λ z. let e : Drawing = record z { items = z.items ++ x ∷ [] } in e) p
-    ∙ ap (λ z. let e : Drawing = record d { items = (d.items ++ each f k) ++ z ∷ [] } in e) r
-    ∙ ap (λ z. let e : Drawing = record d { items = z } in e) (append_assoc d.items (each f k) (f k ∷ []))
-
-pub length-each : (f : ℕ → Item) (n : ℕ) → length (each f n) ≡ n
+length-each : (f : ℕ → Item) (n : ℕ) → length (each f n) ≡ n
 length-each f zero = refl
 length-each f (suc n) =
     let h : length (each f n) ≡ n = length-each f n in

@@ -162,7 +162,10 @@ fn told_item(alloc: Global, item: &Item) -> Option<String> {
             format!(in alloc; " line {name} {} {}-{} {}", a.x, a.y, b.x, b.y).ok()
         }
         Item::Rect {
-            name, low, high, ..
+            name,
+            low,
+            high,
+            ..
         } => format!(in alloc; " box {name} {} {}-{} {}", low.x, low.y, high.x, high.y).ok(),
         Item::Face {
             number,
@@ -213,7 +216,9 @@ mod tests {
         let found = told_visible(rt.alloc(), &DIAMOND, &DIAMOND_LISTS);
         assert_eq!(rt;
             found.as_ref().map(|t| t.as_str()),
-            Some("1 2 bar 1 at 0 0-1 bar 2 at 1 0-0 bar 3 at 1 1-1 bar 4 at 2 0-1 line 1 0 0-0 1 line 2 1 0-1 1 line 3 0 1-0 2 line 4 1 1-1 2")
+            Some(
+                "1 2 bar 1 at 0 0-1 bar 2 at 1 0-0 bar 3 at 1 1-1 bar 4 at 2 0-1 line 1 0 0-0 1 line 2 1 0-1 1 line 3 0 1-0 2 line 4 1 1-1 2"
+            )
         );
         Ok(())
     }
@@ -223,7 +228,9 @@ mod tests {
         let found = told_visible(rt.alloc(), &CHORDS, &CHORD_LISTS);
         assert_eq!(rt;
             found.as_ref().map(|t| t.as_str()),
-            Some("2 3 bar 1 at 0 0-2 bar 2 at 1 0-1 bar 3 at 2 1-2 bar 4 at 3 0-2 line 1 0 0-0 1 line 2 0 1-0 3 line 3 1 1-1 2 line 4 2 0-2 2 line 5 1 2-1 3")
+            Some(
+                "2 3 bar 1 at 0 0-2 bar 2 at 1 0-1 bar 3 at 2 1-2 bar 4 at 3 0-2 line 1 0 0-0 1 line 2 0 1-0 3 line 3 1 1-1 2 line 4 2 0-2 2 line 5 1 2-1 3"
+            )
         );
         Ok(())
     }
@@ -233,7 +240,9 @@ mod tests {
         let found = told_tiled(rt.alloc(), &DIAMOND, &DIAMOND_LISTS);
         assert_eq!(rt;
             found.as_ref().map(|t| t.as_str()),
-            Some("2 2 bar 1 at 0 0-2 bar 2 at 1 0-1 bar 3 at 1 1-2 bar 4 at 2 0-2 box 1 0 0-1 1 box 2 1 0-2 1 box 3 0 1-1 2 box 4 1 1-2 2 post 0 at 0 0-2 post 1 at 1 0-2 post 2 at 2 0-2")
+            Some(
+                "2 2 bar 1 at 0 0-2 bar 2 at 1 0-1 bar 3 at 1 1-2 bar 4 at 2 0-2 box 1 0 0-1 1 box 2 1 0-2 1 box 3 0 1-1 2 box 4 1 1-2 2 post 0 at 0 0-2 post 1 at 1 0-2 post 2 at 2 0-2"
+            )
         );
         Ok(())
     }

@@ -3,7 +3,7 @@ use Rattle.draw_vis.proofs.drawing_tests.no_labels.Given as goal
 
 abbrev pub invariant-loop-i : goal.invariant-loop-i
 invariant-loop-i l = record {
-  in_range : l.i ≤ l.n;
-  size : length l.labels ≡ l.i;
-  each : (k : ℕ) → k < l.i → slice_get l.labels k ≡ Some None;
+  in_range : l._i ≤ l.n;
+  size : length l.labels ≡ l._i;
+  each : (k : ℕ) → k < l._i → slice_get l.labels k ≡ Some None;
 }
