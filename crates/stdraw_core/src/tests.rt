@@ -287,7 +287,8 @@ fn tests_for_planar_st_graphs(rt: HostRuntime) -> Result<(), Fail> {
     Ok(())
 }
 
-const HEADER: &str = "%%EndComments\n/Helvetica findfont 10 scalefont setfont\n1 setlinewidth 1 setlinecap\n";
+const HEADER: &str =
+    "%%EndComments\n/Helvetica findfont 10 scalefont setfont\n1 setlinewidth 1 setlinecap\n";
 
 // What a drawing of a file has to write: the box, the title, the lines behind the header.
 struct Drawn {
