@@ -42,7 +42,7 @@ loop-e-smaller-in-Continue-branch-4 c = rw c.set.ensures
 pub loop-e-preserved-in-Continue-branch-4 : goal.loop-e-preserved-in-Continue-branch-4
 loop-e-preserved-in-Continue-branch-4 c = rw (c.set.ensures, c.set-then-left-eq0.ensures)
     (going_number c.local.ensures c.pop.new.self.items c.in-Some.e c.loop-e.invariant c.in-Some.ensures.items c.head-v.ensures.value (read c.local.ensures c.pop.new.self.items c.in-Some.e c.loop-e.invariant c.in-Some.ensures.items c.head-v.ensures.value c.get.ensures.read).left c.if-left-eq0.true
-    c.outs-then-left-eq0.result.now c.outs-then-left-eq0.ensures c.in_ok-put-2.ensures)
+    c.outs-then-left-eq0.result.now c.outs-then-left-eq0.ensures.value c.in_ok-put-2.ensures)
 
 pub loop-e-smaller : goal.loop-e-smaller
 loop-e-smaller c = rw c.set.ensures
