@@ -1,0 +1,9 @@
+pub mod BendLemmas
+pub mod BuildLemmas
+pub mod DirectionLemmas
+pub mod ItemLemmas
+pub mod LaidLemmas
+pub mod NumberLemmas
+pub mod SameLemmas
+pub mod TableLemmas
+pub mod TrackLemmas

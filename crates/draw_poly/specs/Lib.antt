@@ -1,0 +1,6 @@
+pub mod Laws
+pub mod Numbers
+pub mod Placing
+pub mod Polyline
+pub mod Tables
+pub mod Tracks

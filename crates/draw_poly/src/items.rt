@@ -1,0 +1,124 @@
+//! The items of a polyline picture: dots, lines and labels.
+ghost use Rattle.std.specs.Prelude.{◌≡◌, ℕ, ◌+◌, ◌<◌, ◌≤◌, ◌^◌, ◌++◌, ◌<ℤ◌, length, pos, IfOk, OnOk};
+ghost use Rattle.draw_poly.specs.Polyline.{bends, bent, corner_of, dot, polylines};
+ghost use Rattle.draw_poly.specs.Tables.{AreTables};
+ghost use Rattle.st_picture.specs.Bars.{number_at};
+ghost use Rattle.st_picture.specs.Items.{at, each, line};
+ghost use Rattle.st_picture.specs.Naming.{AreNames};
+ghost use Rattle.st_shape.specs.Rules.{FitsFrame};
+ghost use Rattle.st_sides.specs.Sides.{edge_count};
+
+use crate::grid::Grid;
+use st_ids::{EdgeId, Names, NoMemory, VertexId};
+use st_picture::push_labels;
+use st_shape::{Form, Item, Picture, Point, Points};
+use st_sides::{Sides, laws};
+use std::alloc::Global;
+
+/// The points of a line from `low` to `high`, which bends in the column `x`: one row above its low end and one row below its
+/// high end, once where these are one point, and not at all where the line is one row high.
+fn bends(alloc: Global, low: Point, high: Point, x: i64) -> Points
+    requires { low.y <ℤ high.y }
+    ensures { (a i k b j : ℕ) → low ≡ at a i → high ≡ at b j → x ≡ pos k → result ≡ bends a i k b j }
+{
+    let first = Point { x, y: low.y + 1 };
+    let second = Point { x, y: high.y - 1 };
+    if high.y == first.y {
+        Points::two(alloc, low, high)
+    } else if first.y == second.y {
+        Points::three(alloc, low, first, high)
+    } else {
+        Points::four(alloc, low, first, second, high)
+    }
+}
+
+/// The vertex as a dot.
+fn dot(sides: &Sides, grid: &Grid, names: &Names, v: VertexId) -> Item
+    requires there { v.0 < sides.now.vertices }
+    requires names { AreNames sides.now names.now }
+    requires tables { AreTables sides.now grid.now.heights grid.now.columns grid.now.places }
+    ensures { result ≡ dot names.now (number_at grid.now.places) (number_at grid.now.heights) v.0 }
+{
+    Item::Dot {
+        name: *names.vertex.get(v),
+        p: grid.dot_place(sides, v),
+    }
+}
+
+/// The edge as a line.
+fn bent(alloc: Global, sides: &Sides, grid: &Grid, names: &Names, e: EdgeId) -> Item
+    requires there { e.0 < edge_count sides.now }
+    requires names { AreNames sides.now names.now }
+    requires tables { AreTables sides.now grid.now.heights grid.now.columns grid.now.places }
+    ensures { result ≡ line sides.now names.now (bent sides.now (number_at grid.now.heights) (number_at grid.now.columns) (number_at grid.now.places)) e.0 }
+{
+    laws::local(sides);
+    let (tail, head) = (sides.tail(e), sides.head(e));
+    let low = grid.dot_place(sides, tail);
+    let high = grid.dot_place(sides, head);
+    let x = grid.column(sides.face_left(e));
+    Item::Line {
+        name: *names.edge.get(e),
+        tail: *names.vertex.get(tail),
+        head: *names.vertex.get(head),
+        points: bends(alloc, low, high, x),
+    }
+}
+
+/// Adds the dot of each vertex.
+fn push_dots(
+    picture: &mut Picture,
+    sides: &Sides,
+    grid: &Grid,
+    names: &Names,
+) -> Result<(), NoMemory>
+    requires names { AreNames sides.now names.now }
+    requires tables { AreTables sides.now grid.now.heights grid.now.columns grid.now.places }
+    requires fits { (v : ℕ) → v < sides.now.vertices → FitsFrame picture.old.frame (dot names.now (number_at grid.now.places) (number_at grid.now.heights) v) }
+    requires room { length picture.old.items + sides.now.vertices < 2 ^ 31 }
+    ensures { OnOk result (picture.new ≡ record picture.old { items = picture.old.items ++ each (dot names.now (number_at grid.now.places) (number_at grid.now.heights)) sides.now.vertices }) }
+{
+    for v in 0..sides.vertices() {
+        picture.push(dot(sides, grid, names, VertexId(v)))?;
+    }
+    Ok(())
+}
+
+/// Adds the line of each edge.
+fn push_lines(
+    alloc: Global,
+    picture: &mut Picture,
+    sides: &Sides,
+    grid: &Grid,
+    names: &Names,
+) -> Result<(), NoMemory>
+    requires names { AreNames sides.now names.now }
+    requires tables { AreTables sides.now grid.now.heights grid.now.columns grid.now.places }
+    requires fits { (e : ℕ) → e < edge_count sides.now → FitsFrame picture.old.frame (line sides.now names.now (bent sides.now (number_at grid.now.heights) (number_at grid.now.columns) (number_at grid.now.places)) e) }
+    requires room { length picture.old.items + edge_count sides.now < 2 ^ 31 }
+    ensures { OnOk result (picture.new ≡ record picture.old { items = picture.old.items ++ each (line sides.now names.now (bent sides.now (number_at grid.now.heights) (number_at grid.now.columns) (number_at grid.now.places))) (edge_count sides.now) }) }
+{
+    for e in 0..sides.edges() {
+        picture.push(bent(alloc, sides, grid, names, EdgeId(e)))?;
+    }
+    Ok(())
+}
+
+/// The picture of dots and lines of these tables.
+pub(crate) fn dots_and_lines(
+    alloc: Global,
+    sides: &Sides,
+    grid: &Grid,
+    names: &Names,
+) -> Result<Picture, NoMemory>
+    requires names { AreNames sides.now names.now }
+    requires tables { AreTables sides.now grid.now.heights grid.now.columns grid.now.places }
+    requires room { sides.now.vertices + edge_count sides.now + sides.now.vertices < 2 ^ 31 }
+    ensures { IfOk result (λ d. d ≡ polylines sides.now names.now (number_at grid.now.heights) (number_at grid.now.columns) (number_at grid.now.places)) }
+{
+    laws::local(sides);
+    let mut picture = Picture::new(alloc, Form::Polyline, grid.corner(sides));
+    push_dots(&mut picture, sides, grid, names)?;
+    push_lines(alloc, &mut picture, sides, grid, names)?;
+    push_labels(alloc, picture, names)
+}
