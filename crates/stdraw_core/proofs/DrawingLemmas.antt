@@ -1,8 +1,9 @@
 -- What a drawing needs of an accepted graph, and what follows for its output.
-use Rattle.std.proofs.Common.{◌≡◌, ℕ, zero, suc, ◌+◌, ◌<◌, ◌≤◌, List, [], ◌∷◌, length, get_or, slice_get, Option, Some, None, ℤ, pos, refl, sym, ap, ◌∙◌, subst, arith}
+use Rattle.std.proofs.Common.{◌≡◌, ℕ, zero, suc, ◌+◌, ◌-◌, ◌<◌, ◌≤◌, List, [], ◌∷◌, length, get_or, slice_get, Option, Some, None, ℤ, pos, nat_abs, refl, sym, ap, ◌∙◌, subst, arith}
 use Rattle.std.specs.Prelude.{slice_index_or, Result, Ok, Err, IfOk}
 use Rattle.std.specs.List.{All, AllByRecursion}
 use Rattle.std.proofs.lemmas.List.Elements.{All-get_or}
+use Rattle.std.proofs.lemmas.Int.{ints}
 use Rattle.std.proofs.lemmas.Option.{slice_get-get_or}
 use Rattle.st_ids.specs.declared.names.Names.{Names}
 use Rattle.st_map.specs.Embedded.{Embedded}
@@ -20,9 +21,15 @@ use Rattle.st_shape.specs.Rules.{Drawing, IsPrintable}
 use Rattle.st_number.specs.Weighing.{WeightsValue, IsLawful}
 use Rattle.st_number.specs.Greatest.{weigh, IsGreatest}
 use Rattle.draw_vis.specs.Numbers.{AreNumbers}
+use Rattle.draw_poly.specs.Placing.{AreEnds}
+use Rattle.draw_poly.specs.Polyline.{IsPolylines, IsPolylineBy}
+use Rattle.st_sides.specs.Sides.{IsSides, left_of, right_of}
+use Rattle.st_sides.proofs.ReaderLemmas.{right_within}
+use Rattle.st_number.proofs.BoundLemmas.{bounds_law}
+use Rattle.stdraw_core.specs.declared.words.Spot.{Spot}
 use Rattle.draw_vis.specs.Visibility.{IsVisibility, IsVisibilityBy}
 use Rattle.draw_vis.specs.Tessellation.{IsTessellation, IsTessellationBy}
-use Rattle.stdraw_core.specs.Drawing.{file_names, one_each}
+use Rattle.stdraw_core.specs.Drawing.{file_names, one_each, place_of, AnswersRows, AnswersPlaces, IsPlacedPolyline}
 
 mixed : (x : StValue) (r : Refusal) → (let a : Result StValue Refusal = Ok x in a) ≡ Err r → ⊥
 mixed x r h = cc
@@ -66,7 +73,7 @@ same_weigh : {D : Arcs} (w w' : ℕ → ℕ) → ((e : ℕ) → e < D.count → 
 same_weigh w w' same (stay q) = refl
 same_weigh w w' same (step {e = e} {es = es} l f rest) = ap (λ z. z + weigh w es) (same e l) ∙ ap (λ z. w' e + z) (same_weigh w w' same rest)
 
-same_greatest : {D : Arcs} (w w' : ℕ → ℕ) → ((e : ℕ) → e < D.count → w e ≡ w' e) → (a v n : ℕ) → IsGreatest D w a v n → IsGreatest D w' a v n
+pub same_greatest : {D : Arcs} (w w' : ℕ → ℕ) → ((e : ℕ) → e < D.count → w e ≡ w' e) → (a v n : ℕ) → IsGreatest D w a v n → IsGreatest D w' a v n
 same_greatest w w' same a v n h = record {
   way = h.way;
   walk = h.walk;
@@ -119,3 +126,36 @@ names_are g N v e l =
 pub edges_within : (g : InputGraph) (st : StValue) (x : SidesValue) → IsFound g st → IsSidesOf st.map.graph st.source st.sink st.outer x → (n : ℕ) → length g.graph.ends ≤ n → edge_count x ≤ n
 unfolding edge_count
 edges_within g st x is of n few = let q : length x.ends ≡ length g.graph.ends = ap length (of.ends ∙ is.ends) in omega arith
+
+pub edges_are : (st : StValue) (x : SidesValue) → IsSidesOf st.map.graph st.source st.sink st.outer x → edge_count x ≡ length st.map.graph.ends
+unfolding edge_count
+edges_are st x of = ap length of.ends
+
+-- ---- polylines
+pos_same : (m n : ℕ) → pos m ≡ pos n → m ≡ n
+pos_same m n e = ap nat_abs e
+
+-- the picture under what the closures answered
+pub placed_polyline : (answer : EdgeId → ℕ → Type 0) (place : ℤ → ℤ → ℤ → Type 0) (spot : Spot) (g : Embedded) (s t outer : ℕ) (x : SidesValue) → IsSidesOf g s t outer x → IsSides x → edge_count x ≤ 50000000
+    → (N : Names) (d : Drawing) → AnswersRows answer g → AnswersPlaces spot place → IsPolylineBy answer place x N d → IsPlacedPolyline spot g x N d
+unfolding edge_count
+placed_polyline answer place spot g s t outer x of S few N d rows places h = record {
+  weight = h.weight;
+  rows = record {
+    double = λ e l p. rows.double (record { 0 = e }) (h.weight e) l p (h.taken e (there e l));
+    single = λ e l n. rows.single (record { 0 = e }) (h.weight e) l n (h.taken e (there e l));
+  };
+  column = h.at;
+  picture = h.picture;
+  placed = λ v l.
+      let low : h.picture.c (left_of x v) ≤ h.at v = h.picture.from v l in
+      let high : h.at v ≤ h.picture.c (right_of x v) - 1 = h.picture.to v l in
+      let most : h.picture.c (right_of x v) ≤ edge_count x = (bounds_law x S).columns (right_of x v) (h.picture.c (right_of x v)) (h.picture.numbers.column (right_of x v) (right_within x S v l)) in
+      pos_same (h.at v) _ (places (h.picture.c (left_of x v)) (h.picture.c (right_of x v) - 1) (pos (h.at v)) (ends (h.picture.c (left_of x v)) (h.picture.c (right_of x v) - 1) (omega arith) (omega arith)) (h.placed v l));
+}
+  where
+    there : (e : ℕ) → e < length g.ends → e < length x.ends
+    there e l = let q : length x.ends ≡ length g.ends = ap length of.ends in omega arith
+
+    ends : (l h : ℕ) → l ≤ h → h ≤ 50000000 → AreEnds (pos l) (pos h)
+    ends l h a b = record { from_zero = omega (arith, ints); in_order = omega (arith, ints, a); to_greatest = omega (arith, ints, b) }

@@ -8,7 +8,9 @@ use Rattle.st_input.proofs.LawLemmas.{fits_together}
 use Rattle.st_port.specs.Faults.{Rose}
 use Rattle.st_port.specs.Streams.{SourceState, SinkState, Gains}
 use Rattle.st_shape.specs.Rules.{Drawing}
+use Rattle.st_map.specs.Embedded.{Embedded}
 use Rattle.st_sides.specs.Sides.{SidesValue, IsSides}
+use Rattle.st_sides.specs.SidesOf.{IsSidesOf}
 use Rattle.st_sides.proofs.MeaningLemmas.{meaning_law}
 use Rattle.st_sides.proofs.NormalLemmas.{order_law}
 use Rattle.st_ids.specs.declared.names.Names.{Names}
@@ -17,10 +19,12 @@ use Rattle.st_test.specs.Planar.{StValue}
 use Rattle.st_test.specs.PolesAnswer.{OnePolesAnswer}
 use Rattle.draw_vis.proofs.NumberLemmas.{visibility_drawn}
 use Rattle.draw_vis.proofs.TileLemmas.{tessellation_drawn}
+use Rattle.draw_poly.proofs.NumberLemmas.{polyline_drawn}
+use Rattle.stdraw_core.proofs.PolylineLemmas.{long}
 use Rattle.stdraw_core.specs.declared.words.Command.{Command}
 use Rattle.stdraw_core.specs.declared.words.Command.TheVariants.{Draw}
 use Rattle.stdraw_core.specs.declared.words.DrawForm.{DrawForm}
-use Rattle.stdraw_core.specs.declared.words.DrawForm.TheVariants.{Visibility, Tessellation}
+use Rattle.stdraw_core.specs.declared.words.DrawForm.TheVariants.{Visibility, Tessellation, Polyline}
 use Rattle.stdraw_core.specs.declared.stop.Refusal.{Refusal}
 use Rattle.stdraw_core.specs.declared.stop.Status.{Status}
 use Rattle.stdraw_core.specs.declared.stop.Status.TheVariants as status
@@ -85,9 +89,10 @@ output_of bytes form out h =
     }
 
 -- ---- the picture is right
-right_picture : (form : DrawForm) (x : SidesValue) → IsSides x → (N : Names) → AreNames x N → (d : Drawing) → IsPictureOf form x N d → IsRightPicture form x d
-right_picture Visibility x is N names d h = visibility_drawn x is one_each (λ e l. omega arith) N names d h
-right_picture Tessellation x is N names d h = tessellation_drawn x is one_each (λ e l. omega arith) N names d h
+right_picture : (form : DrawForm) (g : Embedded) (s t outer : ℕ) (x : SidesValue) → IsSidesOf g s t outer x → IsSides x → (N : Names) → AreNames x N → (d : Drawing) → IsPictureOf form g x N d → IsRightPicture form x d
+right_picture Visibility g s t outer x of is N names d h = visibility_drawn x is one_each (λ e l. omega arith) N names d h
+right_picture Tessellation g s t outer x of is N names d h = tessellation_drawn x is one_each (λ e l. omega arith) N names d h
+right_picture (Polyline spot) g s t outer x of is N names d h = polyline_drawn x is h.weight (long g s t outer x of is h.weight h.rows) h.column N names d h.picture
 
 shows_file : (bytes : List ℕ) (form : DrawForm) (g : InputGraph) (st : StValue) (out : List ℕ) → IsPlanarFile bytes g st → Draws form g st out → ShowsFile form g st out
 shows_file bytes form g st out file h =
@@ -96,7 +101,7 @@ shows_file bytes form g st out file h =
     let here : IsSides h.sides = meaning_law st.map.graph st.source st.sink st.outer h.sides is.planar h.are.sides in
     record {
       drawn = h;
-      right = right_picture form h.sides here (file_names g) (names_meet g st h.sides tables is h.are.sides) h.picture h.is;
+      right = right_picture form st.map.graph st.source st.sink st.outer h.sides h.are.sides here (file_names g) (names_meet g st h.sides tables is h.are.sides) h.picture h.is;
       orders = λ v l. order_law st.map.graph st.source st.sink st.outer h.sides is.planar h.are.sides v l;
     }
 

@@ -3,6 +3,7 @@ pub mod SearchLemmas
 pub mod WordLemmas
 pub mod VerdictLemmas
 pub mod DrawingLemmas
+pub mod PolylineLemmas
 pub mod StageLemmas
 pub mod VerdictOne
 pub mod OneAnswer

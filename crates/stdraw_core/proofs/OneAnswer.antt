@@ -9,7 +9,9 @@ use Rattle.st_test.specs.PolesAnswer.{OnePolesAnswer}
 use Rattle.stdraw_core.specs.declared.words.Command.{Command}
 use Rattle.stdraw_core.specs.declared.words.Command.TheVariants.{Query, Test, Draw}
 use Rattle.stdraw_core.specs.declared.words.DrawForm.{DrawForm}
-use Rattle.stdraw_core.specs.declared.words.DrawForm.TheVariants.{Visibility, Tessellation}
+use Rattle.stdraw_core.specs.declared.words.DrawForm.TheVariants.{Visibility, Tessellation, Polyline}
+use Rattle.stdraw_core.specs.declared.words.Spot.{Spot}
+use Rattle.stdraw_core.specs.declared.words.Spot.TheVariants.{Left, Middle, Right}
 use Rattle.stdraw_core.specs.declared.stop.Refusal.{Refusal}
 use Rattle.stdraw_core.specs.declared.stop.Refusal.TheVariants.{Words, TooManyBytes, Gml, Shape, NotSt, UnknownVertex}
 use Rattle.stdraw_core.specs.Stages.{IsOne}
@@ -19,13 +21,16 @@ use Rattle.stdraw_core.specs.Verdict.{IsAccepted}
 use Rattle.stdraw_core.specs.Answer.{Asks, IsFew, IsTree, IsGraph, AnswersQuery, AnswersTest, AnswersDraw, Answers, AnswersGraph, AnswersFile, HaveOneAnswer, byte_limit}
 use Rattle.st_ids.specs.declared.names.Names.{Names}
 use Rattle.st_shape.specs.Rules.{Drawing}
+use Rattle.st_map.specs.Embedded.{Embedded}
 use Rattle.st_sides.specs.Sides.{SidesValue, IsSides}
+use Rattle.st_sides.specs.SidesOf.{IsSidesOf}
 use Rattle.st_sides.proofs.MeaningLemmas.{meaning_law}
 use Rattle.st_sides.proofs.OneValueLemmas.{one_value_law}
 use Rattle.eps_core.specs.Text.{text}
 use Rattle.draw_vis.proofs.SameLemmas.{pictures_law}
 use Rattle.stdraw_core.specs.Drawing.{one_each, file_names, IsPictureOf, Draws}
 use Rattle.stdraw_core.proofs.DrawingLemmas.{found}
+use Rattle.stdraw_core.proofs.PolylineLemmas.{one_polyline}
 use Rattle.stdraw_core.proofs.StageLemmas.{ok, err, one_then, same_bool}
 use Rattle.stdraw_core.proofs.VerdictOne.{accepted_one}
 
@@ -59,15 +64,65 @@ test_no_draw e = let q : 116 ≡ 100 = ap (λ (z : List ℕ). get_or z 0 0) e in
 draw_no_query : codes "draw" ≡ codes "query" → ⊥
 draw_no_query e = let q : 100 ≡ 113 = ap (λ (z : List ℕ). get_or z 0 0) e in omega (arith, q)
 
-visibility_no_tessellation : codes "visibility" ∷ [] ≡ codes "tessellation" ∷ [] → ⊥
-visibility_no_tessellation e = let q : 118 ≡ 116 = ap (λ (z : List (List ℕ)). get_or (get_or z 0 []) 0 0) e in omega (arith, q)
+-- the first letter of the first word, and of the second
+first_letter : List (List ℕ) → ℕ
+first_letter words = get_or (get_or words 0 []) 0 0
+
+second_letter : List (List ℕ) → ℕ
+second_letter words = get_or (get_or words 1 []) 0 0
+
+-- the forms and the spots by the letters of their words
+form_letter : DrawForm → ℕ
+form_letter Visibility = 118
+form_letter Tessellation = 116
+form_letter (Polyline spot) = 112
+
+spot_letter : Spot → ℕ
+spot_letter Left = 108
+spot_letter Middle = 109
+spot_letter Right = 114
+
+form_first : (form : DrawForm) → first_letter (form_words form) ≡ form_letter form
+unfolding first_letter form_letter
+form_first Visibility = refl
+form_first Tessellation = refl
+form_first (Polyline spot) = refl
+
+spot_second : (spot : Spot) → second_letter (form_words (Polyline spot)) ≡ spot_letter spot
+unfolding second_letter spot_letter
+spot_second Left = refl
+spot_second Middle = refl
+spot_second Right = refl
+
+same_spot : (s s' : Spot) → spot_letter s ≡ spot_letter s' → s ≡ s'
+unfolding spot_letter
+same_spot Left Left e = refl
+same_spot Left Middle e = absurd (omega (arith, e))
+same_spot Left Right e = absurd (omega (arith, e))
+same_spot Middle Left e = absurd (omega (arith, e))
+same_spot Middle Middle e = refl
+same_spot Middle Right e = absurd (omega (arith, e))
+same_spot Right Left e = absurd (omega (arith, e))
+same_spot Right Middle e = absurd (omega (arith, e))
+same_spot Right Right e = refl
 
 -- a form has words of its own
+by_letters : (f f' : DrawForm) → form_words f ≡ form_words f' → form_letter f ≡ form_letter f' → f ≡ f'
+unfolding form_letter
+by_letters Visibility Visibility w e = refl
+by_letters Visibility Tessellation w e = absurd (omega (arith, e))
+by_letters Visibility (Polyline s) w e = absurd (omega (arith, e))
+by_letters Tessellation Visibility w e = absurd (omega (arith, e))
+by_letters Tessellation Tessellation w e = refl
+by_letters Tessellation (Polyline s) w e = absurd (omega (arith, e))
+by_letters (Polyline s) Visibility w e = absurd (omega (arith, e))
+by_letters (Polyline s) Tessellation w e = absurd (omega (arith, e))
+by_letters (Polyline s) (Polyline s') w e = ap (λ z. Polyline z) (same_spot s s' (sym (spot_second s) ∙ ap second_letter w ∙ spot_second s'))
+
 same_form : (words : List (List ℕ)) (f f' : DrawForm) → AreForm words f → AreForm words f' → f ≡ f'
-same_form words Visibility Visibility h k = refl
-same_form words Visibility Tessellation h k = absurd (visibility_no_tessellation (sym h ∙ k))
-same_form words Tessellation Visibility h k = absurd (visibility_no_tessellation (sym k ∙ h))
-same_form words Tessellation Tessellation h k = refl
+same_form words f f' h k =
+    let w : form_words f ≡ form_words f' = sym h ∙ k in
+    by_letters f f' w (sym (form_first f) ∙ ap first_letter w ∙ form_first f')
 
 -- a query has more than one word
 no_pairs : (name : List ℕ) (ps : List (ℤ × ℤ)) → IsCommand (name ∷ []) (Query ps) → ⊥
@@ -217,16 +272,17 @@ test_one g st (Ok a) (Err s) h k = absurd k
 test_one g st (Err r) y h k = absurd h
 
 -- ---- the drawing
-same_picture : (form : DrawForm) (x : SidesValue) → IsSides x → (N : Names) (d d' : Drawing) → IsPictureOf form x N d → IsPictureOf form x N d' → d ≡ d'
-same_picture Visibility x is N d d' h k = (pictures_law x is).one_visibility one_each N d d' h k
-same_picture Tessellation x is N d d' h k = (pictures_law x is).one_tessellation one_each N d d' h k
+same_picture : (form : DrawForm) (g : Embedded) (s t outer : ℕ) (x : SidesValue) → IsSidesOf g s t outer x → IsSides x → (N : Names) (d d' : Drawing) → IsPictureOf form g x N d → IsPictureOf form g x N d' → d ≡ d'
+same_picture Visibility g s t outer x of is N d d' h k = (pictures_law x is).one_visibility one_each N d d' h k
+same_picture Tessellation g s t outer x of is N d d' h k = (pictures_law x is).one_tessellation one_each N d d' h k
+same_picture (Polyline spot) g s t outer x of is N d d' h k = one_polyline g s t outer x of is spot N d d' h k
 
 same_drawing : (form : DrawForm) (g : InputGraph) (st : StValue) → IsPlanarSt st.map.graph st.source st.sink st.outer → (a b : List ℕ) → Draws form g st a → Draws form g st b → a ≡ b
 same_drawing form g st planar a b h k =
     let one : h.sides ≡ k.sides = one_value_law st.map.graph st.source st.sink st.outer h.sides k.sides planar h.are.sides h.are.sizes k.are.sides k.are.sizes in
     let here : IsSides h.sides = meaning_law st.map.graph st.source st.sink st.outer h.sides planar h.are.sides in
-    let moved : IsPictureOf form h.sides (file_names g) k.picture = subst (λ (z : SidesValue). IsPictureOf form z (file_names g) k.picture) (sym one) k.is in
-    h.told ∙ ap text (same_picture form h.sides here (file_names g) h.picture k.picture h.is moved) ∙ sym k.told
+    let moved : IsPictureOf form st.map.graph h.sides (file_names g) k.picture = subst (λ (z : SidesValue). IsPictureOf form st.map.graph z (file_names g) k.picture) (sym one) k.is in
+    h.told ∙ ap text (same_picture form st.map.graph st.source st.sink st.outer h.sides h.are.sides here (file_names g) h.picture k.picture h.is moved) ∙ sym k.told
 
 draw_one : (form : DrawForm) (g : InputGraph) (st : StValue) → IsPlanarSt st.map.graph st.source st.sink st.outer → IsOne (AnswersDraw form g st)
 draw_one form g st planar (Ok a) (Ok b) h k = ok a b (same_drawing form g st planar a b h k)

@@ -3,28 +3,38 @@
 --   one_each                   each edge weighs 1
 --   file_names g               the names and labels of the file
 --   AreSidesIn st x            x has the sides of the planar st-graph, with an entry for each vertex, edge and node
---   IsPictureOf form x N d     d is the picture of the form
+--   AreRows g w                the weights of a polyline picture: 2 where another edge has the same ends, else 1
+--   place_of spot lo hi        the column of a dot between the ends of a bar
+--   AnswersRows, AnswersPlaces what closures have to answer for these weights and columns
+--   IsPlacedPolyline           the polyline picture with these weights and columns
+--   IsPictureOf form g x N d   d is the picture of the form
 --   Draws form g st out        out is the EPS text of that picture, which keeps the rules of pictures
 --   IsRightPicture form x d    clean, rising and in order, or for a tessellation: its boxes tile the frame in order
 --   ShowsFile form g st out    out is the EPS text of a right picture, in the orders of the file
-use Rattle.std.specs.Prelude.{◌≡◌, ℕ, ◌<◌, List}
+use Rattle.std.specs.Prelude.{◌≡◌, ℕ, ◌+◌, ◌-◌, ◌/◌, ◌<◌, List, ℤ, pos}
 use Rattle.st_ids.specs.declared.names.Names.{Names}
-use Rattle.st_map.specs.Embedded.{order}
+use Rattle.st_map.specs.Embedded.{Embedded, edges, order}
 use Rattle.st_test.specs.Planar.{StValue}
-use Rattle.st_sides.specs.Sides.{SidesValue, outs, ins}
+use Rattle.st_sides.specs.Sides.{SidesValue, outs, ins, left_of, right_of}
 use Rattle.st_sides.specs.SidesOf.{IsSidesOf}
 use Rattle.st_sides.specs.Held.{HasSizes}
 use Rattle.st_sides.specs.Normal.{clockwise}
 use Rattle.st_sides.specs.Rotation.{IsRotation}
 use Rattle.st_shape.specs.Rules.{Drawing, IsPicture}
 use Rattle.st_picture.specs.Drawn.{IsDrawn}
+use Rattle.st_ids.specs.declared.ids.EdgeId.{EdgeId}
+use Rattle.st_number.specs.Parallel.{HasParallel}
+use Rattle.draw_poly.specs.Placing.{AreEnds}
+use Rattle.draw_poly.specs.Polyline.{IsPolylines}
 use Rattle.draw_vis.specs.Visibility.{IsVisibility}
 use Rattle.draw_vis.specs.Tessellation.{IsTessellation}
 use Rattle.draw_vis.specs.Rows.{IsTessellated}
 use Rattle.eps_core.specs.Text.{text}
 use Rattle.st_input.specs.InputGraph.{InputGraph}
 use Rattle.stdraw_core.specs.declared.words.DrawForm.{DrawForm}
-use Rattle.stdraw_core.specs.declared.words.DrawForm.TheVariants.{Visibility, Tessellation}
+use Rattle.stdraw_core.specs.declared.words.DrawForm.TheVariants.{Visibility, Tessellation, Polyline}
+use Rattle.stdraw_core.specs.declared.words.Spot.{Spot}
+use Rattle.stdraw_core.specs.declared.words.Spot.TheVariants.{Left, Middle, Right}
 
 -- each edge weighs 1
 abbrev pub one_each : ℕ → ℕ
@@ -39,17 +49,46 @@ pub record AreSidesIn (st : StValue) (x : SidesValue) : Type 0 where
   pub sides : IsSidesOf st.map.graph st.source st.sink st.outer x
   pub sizes : HasSizes x
 
+-- an edge takes two rows at least where another edge has the same ends, and else one
+pub record AreRows (g : Embedded) (w : ℕ → ℕ) : Type 0 where
+  pub double : (e : ℕ) → e < edges g → HasParallel g e → w e ≡ 2
+  pub single : (e : ℕ) → e < edges g → ¬ HasParallel g e → w e ≡ 1
+
+-- at the left end of the bar, in its middle, or at its right end
+abbrev pub place_of : Spot → ℕ → ℕ → ℕ
+place_of Left lo hi = lo
+place_of Middle lo hi = lo + (hi - lo) / 2
+place_of Right lo hi = hi
+
+-- whatever the closure answers on an edge of the graph is how many rows it takes
+pub record AnswersRows (answer : EdgeId → ℕ → Type 0) (g : Embedded) : Type 0 where
+  pub double : (e : EdgeId) (n : ℕ) → e.0 < edges g → HasParallel g e.0 → answer e n → n ≡ 2
+  pub single : (e : EdgeId) (n : ℕ) → e.0 < edges g → ¬ HasParallel g e.0 → answer e n → n ≡ 1
+
+-- whatever the closure answers between two ends of a bar is the column of the spot
+abbrev pub AnswersPlaces : Spot → (ℤ → ℤ → ℤ → Type 0) → Type 0
+AnswersPlaces spot answer = (l h : ℕ) (x : ℤ) → AreEnds (pos l) (pos h) → answer (pos l) (pos h) x → x ≡ pos (place_of spot l h)
+
+-- The polyline picture in which each vertex stands at this spot of its bar.
+pub record IsPlacedPolyline (spot : Spot) (g : Embedded) (x : SidesValue) (N : Names) (d : Drawing) : Type 0 where
+  pub weight : ℕ → ℕ
+  pub rows : AreRows g weight
+  pub column : ℕ → ℕ
+  pub picture : IsPolylines x weight column N d
+  pub placed : (v : ℕ) → v < x.vertices → column v ≡ place_of spot (picture.c (left_of x v)) (picture.c (right_of x v) - 1)
+
 -- the picture of the form
-abbrev pub IsPictureOf : DrawForm → SidesValue → Names → Drawing → Type 0
-IsPictureOf Visibility x N d = IsVisibility x one_each N d
-IsPictureOf Tessellation x N d = IsTessellation x one_each N d
+abbrev pub IsPictureOf : DrawForm → Embedded → SidesValue → Names → Drawing → Type 0
+IsPictureOf Visibility g x N d = IsVisibility x one_each N d
+IsPictureOf Tessellation g x N d = IsTessellation x one_each N d
+IsPictureOf (Polyline spot) g x N d = IsPlacedPolyline spot g x N d
 
 -- the EPS text of that picture
 pub record Draws (form : DrawForm) (g : InputGraph) (st : StValue) (out : List ℕ) : Type 0 where
   pub sides : SidesValue
   pub are : AreSidesIn st sides
   pub picture : Drawing
-  pub is : IsPictureOf form sides (file_names g) picture
+  pub is : IsPictureOf form st.map.graph sides (file_names g) picture
   pub rules : IsPicture picture
   pub told : out ≡ text picture
 
@@ -58,6 +97,7 @@ pub record Draws (form : DrawForm) (g : InputGraph) (st : StValue) (out : List �
 abbrev pub IsRightPicture : DrawForm → SidesValue → Drawing → Type 0
 IsRightPicture Visibility x d = IsDrawn x d
 IsRightPicture Tessellation x d = IsTessellated x d
+IsRightPicture (Polyline spot) x d = IsDrawn x d
 
 -- The output is the text of a picture in which nothing is wrong. The orders that it shows are those of the file, each read on
 -- from one of its places.

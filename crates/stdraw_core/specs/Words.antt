@@ -9,7 +9,9 @@ use Rattle.std.specs.Str.Parse.{IsNumeral, signed_digits_value, without_leading_
 use Rattle.stdraw_core.specs.declared.words.Command.{Command}
 use Rattle.stdraw_core.specs.declared.words.Command.TheVariants.{Query, Test, Draw}
 use Rattle.stdraw_core.specs.declared.words.DrawForm.{DrawForm}
-use Rattle.stdraw_core.specs.declared.words.DrawForm.TheVariants.{Visibility, Tessellation}
+use Rattle.stdraw_core.specs.declared.words.DrawForm.TheVariants.{Visibility, Tessellation, Polyline}
+use Rattle.stdraw_core.specs.declared.words.Spot.{Spot}
+use Rattle.stdraw_core.specs.declared.words.Spot.TheVariants.{Left, Middle, Right}
 
 -- an optional sign and at least one digit, of a number in signed 64 bits
 pub record IsName (word : List ℕ) (n : ℤ) : Type 0 where
@@ -27,10 +29,17 @@ pub record AreNames (words : List (List ℕ)) (pairs : List (ℤ × ℤ)) : Type
 abbrev pub most_pairs : ℕ
 most_pairs = 1000
 
+-- the word of a spot
+abbrev pub spot_word : Spot → List ℕ
+spot_word Left = codes "left"
+spot_word Middle = codes "middle"
+spot_word Right = codes "right"
+
 -- the words of a form of drawing
 abbrev pub form_words : DrawForm → List (List ℕ)
 form_words Visibility = codes "visibility" ∷ []
 form_words Tessellation = codes "tessellation" ∷ []
+form_words (Polyline spot) = codes "polyline" ∷ spot_word spot ∷ []
 
 -- the words name the form
 abbrev pub AreForm : List (List ℕ) → DrawForm → Type 0

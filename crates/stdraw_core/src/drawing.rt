@@ -1,28 +1,126 @@
 //! The picture of a graph, in the form that the words name.
-ghost use Rattle.std.specs.Prelude.{◌≡◌, ◌≤◌, IfOk, length};
+ghost use Rattle.std.specs.Prelude.{◌≡◌, ◌≢◌, ◌<◌, ◌≤◌, ◌≤ℤ◌, ℕ, pos, Some, true, slice_get, IfOk, length};
+ghost use Rattle.draw_poly.specs.Numbers.{IsLongOnParallels};
+ghost use Rattle.draw_poly.specs.Placing.{AreEnds, IsPlacement};
+ghost use Rattle.st_number.specs.Parallel.{AreParallel};
 ghost use Rattle.st_number.specs.Weighing.{IsLawful};
 ghost use Rattle.st_picture.specs.Naming.{AreNames};
 ghost use Rattle.st_sides.specs.Sides.{edge_count};
 ghost use Rattle.st_sides.specs.SidesOf.{IsSidesOf};
 ghost use Rattle.st_input.specs.InputGraph.{IsConsistent};
 ghost use Rattle.stdraw_core.specs.Answer.{AnswersDraw, vertex_limit, edge_limit};
-ghost use Rattle.stdraw_core.specs.Drawing.{IsPictureOf};
+ghost use Rattle.stdraw_core.specs.Drawing.{AnswersPlaces, AnswersRows, IsPictureOf, IsPlacedPolyline, place_of};
 ghost use Rattle.stdraw_core.specs.Stops.{Gives};
 ghost use Rattle.stdraw_core.specs.Verdict.{IsFound};
 
 use crate::output::Output;
 use crate::stop::Stop;
-use crate::words::DrawForm;
+use crate::words::{DrawForm, Spot};
+use draw_poly::{Placer, polyline};
 use draw_vis::{tessellation, visibility};
-use st_ids::{EdgeId, Names, NoMemory};
+use st_ids::{EdgeId, IdVec, Names, NoMemory};
 use st_input::GraphSpec;
-use st_number::Weights;
+use st_number::{Weights, parallel};
 use st_shape::Picture;
-use st_sides::Sides;
+use st_sides::{Sides, laws};
 use st_test::StGraph;
 use std::alloc::Global;
 
-// The picture of the form, where each edge weighs 1.
+// How many rows the edge takes at least: two where it has a parallel, and else one.
+fn rows_of(flags: &IdVec<EdgeId, bool>, e: EdgeId) -> u32
+    requires { e.0 < length flags.now }
+    ensures double { slice_get flags.now e.0 ≡ Some true → result ≡ 2 }
+    ensures single { slice_get flags.now e.0 ≢ Some true → result ≡ 1 }
+    ensures from { 1 ≤ result }
+    ensures to { result ≤ 2 }
+{
+    if *flags.get(e) { 2 } else { 1 }
+}
+
+// The column of the spot between the ends of a bar.
+fn column_of(spot: Spot, lo: i64, hi: i64) -> i64
+    requires { AreEnds lo hi }
+    ensures from { lo ≤ℤ result }
+    ensures to { result ≤ℤ hi }
+    ensures value { (l h : ℕ) → lo ≡ pos l → hi ≡ pos h → l ≤ h → result ≡ pos (place_of spot l h) }
+{
+    match spot {
+        Spot::Left => lo,
+        Spot::Middle => lo + (hi - lo) / 2,
+        Spot::Right => hi,
+    }
+}
+
+// The polyline picture, where the closures answer rows and columns.
+fn placed_polyline<F: Fn(EdgeId) -> u32, G: Fn(i64, i64) -> i64>(
+    alloc: Global,
+    spot: Spot,
+    graph: &StGraph,
+    sides: &Sides,
+    rows: &Weights<F>,
+    placer: &Placer<G>,
+    names: &Names,
+) -> Result<Picture, NoMemory>
+    requires sides { IsSidesOf graph.now.map.graph graph.now.source graph.now.sink graph.now.outer sides.now }
+    requires names { AreNames sides.now names.now }
+    requires weights { rows.now.edges ≡ edge_count sides.now }
+    requires lawful { IsLawful F.pre F.post rows.now }
+    requires most { rows.now.most ≡ 2 }
+    requires long { IsLongOnParallels (F.post rows.now.closure) graph.now.map.graph }
+    requires rows { AnswersRows (F.post rows.now.closure) graph.now.map.graph }
+    requires placement { IsPlacement G.pre G.post placer.now }
+    requires places { AnswersPlaces spot (G.post placer.now.closure) }
+    requires high { sides.now.vertices ≤ vertex_limit }
+    requires wide { edge_count sides.now ≤ edge_limit }
+    ensures { IfOk result (IsPlacedPolyline spot graph.now.map.graph sides.now names.now) }
+{
+    laws::local(sides);
+    polyline(alloc, graph, sides, rows, placer, names)
+}
+
+// The polyline picture, with each vertex at this spot of its bar. The flags tell which edges have a parallel.
+fn flagged_polyline(
+    alloc: Global,
+    spot: Spot,
+    graph: &StGraph,
+    sides: &Sides,
+    names: &Names,
+    flags: &IdVec<EdgeId, bool>,
+) -> Result<Picture, NoMemory>
+    requires sides { IsSidesOf graph.now.map.graph graph.now.source graph.now.sink graph.now.outer sides.now }
+    requires names { AreNames sides.now names.now }
+    requires flags { AreParallel graph.now.map.graph flags.now }
+    requires size { length flags.now ≡ edge_count sides.now }
+    requires high { sides.now.vertices ≤ vertex_limit }
+    requires wide { edge_count sides.now ≤ edge_limit }
+    ensures { IfOk result (IsPlacedPolyline spot graph.now.map.graph sides.now names.now) }
+{
+    let rows = |e: EdgeId| rows_of(flags, e);
+    let weights = Weights::new(rows, sides.edges(), 2);
+    let place = |lo: i64, hi: i64| column_of(spot, lo, hi);
+    let placer = Placer::new(place);
+    placed_polyline(alloc, spot, graph, sides, &weights, &placer, names)
+}
+
+// The polyline picture, with each vertex at this spot of its bar.
+fn polyline_of(
+    alloc: Global,
+    spot: Spot,
+    graph: &StGraph,
+    sides: &Sides,
+    names: &Names,
+) -> Result<Picture, NoMemory>
+    requires sides { IsSidesOf graph.now.map.graph graph.now.source graph.now.sink graph.now.outer sides.now }
+    requires names { AreNames sides.now names.now }
+    requires high { sides.now.vertices ≤ vertex_limit }
+    requires wide { edge_count sides.now ≤ edge_limit }
+    ensures { IfOk result (IsPlacedPolyline spot graph.now.map.graph sides.now names.now) }
+{
+    let flags = parallel(alloc, graph)?;
+    flagged_polyline(alloc, spot, graph, sides, names, &flags)
+}
+
+// The picture of the form. In the forms of bars each edge weighs 1.
 fn picture_of<F: Fn(EdgeId) -> u32>(
     alloc: Global,
     form: DrawForm,
@@ -38,11 +136,12 @@ fn picture_of<F: Fn(EdgeId) -> u32>(
     requires ones { ones.now.most ≡ 1 }
     requires high { sides.now.vertices ≤ vertex_limit }
     requires wide { edge_count sides.now ≤ edge_limit }
-    ensures { IfOk result (IsPictureOf form sides.now names.now) }
+    ensures { IfOk result (IsPictureOf form graph.now.map.graph sides.now names.now) }
 {
     match form {
         DrawForm::Visibility => visibility(alloc, graph, sides, ones, names),
         DrawForm::Tessellation => tessellation(alloc, graph, sides, ones, names),
+        DrawForm::Polyline(spot) => polyline_of(alloc, spot, graph, sides, names),
     }
 }
 

@@ -20,7 +20,7 @@ mod words;
 
 pub use stop::{NameList, NotSt, Refusal, Status, Stop};
 pub use top::run;
-pub use words::{Command, DrawForm, Pairs};
+pub use words::{Command, DrawForm, Pairs, Spot};
 
 #[cfg(test)]
 mod tests;

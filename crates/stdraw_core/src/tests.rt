@@ -18,6 +18,9 @@ const EDGE: &[u8] = b"graph [ node [ id 1 ] node [ id 2 ] edge [ source 1 target
 const CHORDS: &[u8] =
     b"graph [ node [ id 1 ] node [ id 2 ] node [ id 3 ] node [ id 4 ] edge [ source 1 target 2 ] edge [ source 2 target 4 ] edge [ source 2 target 3 ] edge [ source 1 target 3 ] edge [ source 3 target 4 ] ]\n";
 
+const PAIR: &[u8] =
+    b"graph [ node [ id 1 ] node [ id 2 ] edge [ source 1 target 2 ] edge [ source 1 target 2 ] ]\n";
+
 const CYCLE: &[u8] =
     b"graph [ node [ id 1 ] node [ id 2 ] node [ id 3 ] edge [ source 1 target 2 ] edge [ source 2 target 3 ] edge [ source 3 target 1 ] ]\n";
 
@@ -298,7 +301,7 @@ struct Drawn {
     lines: &'static str,
 }
 
-const DRAWN: [Drawn; 4] = [
+const DRAWN: [Drawn; 6] = [
     Drawn {
         words: "draw visibility",
         file: EDGE,
@@ -322,6 +325,18 @@ const DRAWN: [Drawn; 4] = [
         file: EDGE,
         title: "%%BoundingBox: 0 0 96 96\n%%Title: tessellation\n",
         lines: "%v 1\nnewpath 36 36 moveto 60 36 lineto stroke\n%v 2\nnewpath 36 60 moveto 60 60 lineto stroke\n%e 0 1 2\nnewpath 36 36 moveto 60 36 lineto 60 60 lineto 36 60 lineto closepath stroke\n%f 0\nnewpath 36 36 moveto 36 60 lineto stroke\n%f 1\nnewpath 60 36 moveto 60 60 lineto stroke\n%%EOF\n",
+    },
+    Drawn {
+        words: "draw polyline left",
+        file: CHORDS,
+        title: "%%BoundingBox: 0 0 120 144\n%%Title: polyline\n",
+        lines: "%v 1\nnewpath 36 36 4 0 360 arc fill\n%v 2\nnewpath 36 60 4 0 360 arc fill\n%v 3\nnewpath 60 84 4 0 360 arc fill\n%v 4\nnewpath 36 108 4 0 360 arc fill\n%e 0 1 2\nnewpath 36 36 moveto 36 60 lineto stroke\n%e 1 2 4\nnewpath 36 60 moveto 36 84 lineto 36 108 lineto stroke\n%e 2 2 3\nnewpath 36 60 moveto 60 84 lineto stroke\n%e 3 1 3\nnewpath 36 36 moveto 84 60 lineto 60 84 lineto stroke\n%e 4 3 4\nnewpath 60 84 moveto 36 108 lineto stroke\n%%EOF\n",
+    },
+    Drawn {
+        words: "draw polyline right",
+        file: PAIR,
+        title: "%%BoundingBox: 0 0 96 120\n%%Title: polyline\n",
+        lines: "%v 1\nnewpath 60 36 4 0 360 arc fill\n%v 2\nnewpath 60 84 4 0 360 arc fill\n%e 0 1 2\nnewpath 60 36 moveto 36 60 lineto 60 84 lineto stroke\n%e 1 1 2\nnewpath 60 36 moveto 60 60 lineto 60 84 lineto stroke\n%%EOF\n",
     },
 ];
 

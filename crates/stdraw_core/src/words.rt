@@ -1,7 +1,7 @@
 //! The words of a command line, and the command that they ask for.
-ghost use Rattle.std.specs.Prelude.{◌≡◌, ℤ, ◌+◌, ◌<◌, ◌≤◌, ◌^◌, ◌∷◌, ◌++◌, [], List, length, map, IfOk, OnOk, OnErr, IfSome, IfNone, MatchOption, Ok};
+ghost use Rattle.std.specs.Prelude.{◌≡◌, ◌≢◌, ℤ, ◌+◌, ◌<◌, ◌≤◌, ◌^◌, ◌∷◌, ◌++◌, [], List, length, map, IfOk, OnOk, OnErr, IfSome, IfNone, MatchOption, Ok};
 ghost use Rattle.std.specs.String.{string_bytes};
-ghost use Rattle.stdraw_core.specs.Words.{IsName, AreNames, AreForm, IsCommand, most_pairs};
+ghost use Rattle.stdraw_core.specs.Words.{IsName, AreNames, AreForm, IsCommand, most_pairs, spot_word, form_words};
 
 use st_ids::NoMemory;
 use std::alloc::Global;
@@ -52,6 +52,15 @@ impl Pairs {
     }
 }
 
+/// Where a vertex stands between the ends of its bar.
+#[derive(Clone, Copy)]
+pub enum Spot {
+    Left,
+    /// Half way, rounded to the left.
+    Middle,
+    Right,
+}
+
 /// How a graph is drawn.
 #[derive(Clone, Copy)]
 pub enum DrawForm {
@@ -59,6 +68,8 @@ pub enum DrawForm {
     Visibility,
     /// Boxes for edges, which tile the frame.
     Tessellation,
+    /// Dots for vertices, lines with two bends at most for edges.
+    Polyline(Spot),
 }
 
 /// What the words of a command line ask for.
@@ -100,13 +111,26 @@ fn pairs_of(alloc: Global, words: &[String]) -> Result<Option<Pairs>, NoMemory>
     Ok(Some(pairs))
 }
 
-// The form of drawing that the words name.
-fn form_of(words: &[String]) -> Option<DrawForm>
-    ensures { MatchOption result ((form : DrawForm) → ¬ AreForm (map string_bytes words.now) form) (λ form. AreForm (map string_bytes words.now) form) }
+// The spot that a word names.
+fn spot_of(word: &String) -> Option<Spot>
+    ensures { MatchOption result ((spot : Spot) → string_bytes word.now ≢ spot_word spot) (λ spot. string_bytes word.now ≡ spot_word spot) }
 {
-    let [word] = words else {
-        return None;
-    };
+    if word.as_str() == "left" {
+        return Some(Spot::Left);
+    }
+    if word.as_str() == "middle" {
+        return Some(Spot::Middle);
+    }
+    if word.as_str() == "right" {
+        return Some(Spot::Right);
+    }
+    None
+}
+
+// The form of one word that the word names.
+fn simple_form(word: &String) -> Option<DrawForm>
+    ensures { MatchOption result ((form : DrawForm) → string_bytes word.now ∷ [] ≢ form_words form) (λ form. string_bytes word.now ∷ [] ≡ form_words form) }
+{
     if word.as_str() == "visibility" {
         return Some(DrawForm::Visibility);
     }
@@ -114,6 +138,30 @@ fn form_of(words: &[String]) -> Option<DrawForm>
         return Some(DrawForm::Tessellation);
     }
     None
+}
+
+// The form of two words that the words name.
+fn spotted_form(name: &String, spot: &String) -> Option<DrawForm>
+    ensures { MatchOption result ((form : DrawForm) → string_bytes name.now ∷ string_bytes spot.now ∷ [] ≢ form_words form) (λ form. string_bytes name.now ∷ string_bytes spot.now ∷ [] ≡ form_words form) }
+{
+    if name.as_str() != "polyline" {
+        return None;
+    }
+    match spot_of(spot) {
+        Some(spot) => Some(DrawForm::Polyline(spot)),
+        None => None,
+    }
+}
+
+// The form of drawing that the words name.
+fn form_of(words: &[String]) -> Option<DrawForm>
+    ensures { MatchOption result ((form : DrawForm) → ¬ AreForm (map string_bytes words.now) form) (λ form. AreForm (map string_bytes words.now) form) }
+{
+    match words {
+        [word] => simple_form(word),
+        [name, spot] => spotted_form(name, spot),
+        _ => None,
+    }
 }
 
 /// The command that the words ask for; `None` where they are no form of a command.

@@ -18,7 +18,7 @@ returns-in-Ok-picture_of c = record {
   sides = c.in-Ok.sides;
   are = record { sides = c.in-Ok.ensures; sizes = c.facts.ensures.sizes };
   picture = c.in-Ok-picture_of.picture;
-  is = subst (λ z. IsPictureOf c.args.form c.in-Ok.sides z c.in-Ok-picture_of.picture) (names_are c.args.spec.now c.names.result.now c.names.ensures.vertex c.names.ensures.edge c.names.ensures.label) c.in-Ok-picture_of.ensures;
+  is = subst (λ z. IsPictureOf c.args.form c.args.graph.now.map.graph c.in-Ok.sides z c.in-Ok-picture_of.picture) (names_are c.args.spec.now c.names.result.now c.names.ensures.vertex c.names.ensures.edge c.names.ensures.label) c.in-Ok-picture_of.ensures;
   rules = c.items.ensures.rules;
   told = c.picture.ensures;
 }
