@@ -6,3 +6,6 @@ pub mod FaceLemmas
 pub mod OrderLemmas
 pub mod TableLemmas
 pub mod MapLemmas
+pub mod CyclicLemmas
+pub mod SplitLemmas
+pub mod SplitTables

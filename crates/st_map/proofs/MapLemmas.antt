@@ -22,7 +22,7 @@ module _ (n : ℕ) (ends : List (ℕ × ℕ)) (first degree cw ccw : List ℕ) (
   vertex_below : (d : ℕ) → d < 2 * length ends → at (rotation_of n ends first degree cw) d < n
   vertex_below = at_below (rotation_of n ends first degree cw) m.rotation.ends
 
-  order_is : (v : ℕ) → v < n → order (rotation_of n ends first degree cw) v ≡ ring_at first degree cw v
+  pub order_is : (v : ℕ) → v < n → order (rotation_of n ends first degree cw) v ≡ ring_at first degree cw v
   order_is v l = get_or-map-range_with_len (ring_at first degree cw) 0 n v v [] l (omega arith)
 
   pub degree_is : (v : ℕ) → v < n → get_or degree v 0 ≡ length (order (rotation_of n ends first degree cw) v)

@@ -3,7 +3,9 @@
 --   rotation_of ..         the graph that the tables stand for
 --   IsTableOf n f table    the table has f at the numbers below n
 --   IsMap ..               the tables belong together
-use Rattle.std.specs.Prelude.{ℕ, zero, suc, ◌≡◌, ◌≢◌, ◌⊎◌, ◌+◌, ◌*◌, ◌^◌, ◌<◌, ◌==◌, ◌||◌, Bool, true, cond, nat_lt, List, [], ◌∷◌, map, length, slice_index, slice_index_or}
+--   HasRoom ..             there is room for so many more vertices and edges
+--   AreLinksSplit ..       one end has given its place to a new one
+use Rattle.std.specs.Prelude.{ℕ, zero, suc, ◌≡◌, ◌≢◌, ◌⊎◌, ◌+◌, ◌*◌, ◌^◌, ◌<◌, ◌≤◌, ◌==◌, ◌||◌, Bool, true, cond, nat_lt, List, [], ◌∷◌, map, length, slice_index, slice_index_or}
 use Rattle.std.specs.List.{range_with_len}
 use Rattle.st_ids.specs.Graph.{tail_of, head_of}
 use Rattle.st_map.specs.Counting.{count_below}
@@ -101,3 +103,27 @@ pub record AreListsLinked (ends : List (ℕ × ℕ)) (orders : List (List ℕ)) 
 pub record AreFirsts (n : ℕ) (ends : List (ℕ × ℕ)) (orders : List (List ℕ)) (first : List ℕ) : Type 0 where
   pub size : length first ≡ n
   pub each : (v : ℕ) → v < n → 0 < length (slice_index_or orders v []) → slice_index first v ≡ end_at ends v (slice_index (slice_index_or orders v []) 0)
+
+-- the number of an end, where the given one gets the number `place`
+abbrev pub renumbered : ℕ → ℕ → ℕ → ℕ
+renumbered end place d = cond (d == end) place d
+
+-- The links afterwards: there are two more ends. The second has the place of the given end, and the first leads to it and
+-- is led to by it.
+pub record AreLinksSplit (old : List ℕ) (end : ℕ) (new : List ℕ) : Type 0 where
+  pub size : length new ≡ suc (suc (length old))
+  pub kept : (d : ℕ) → d < length old → d ≢ end → slice_index new d ≡ renumbered end (suc (length old)) (slice_index old d)
+  pub split : slice_index new end ≡ length old
+  pub out : slice_index new (length old) ≡ end
+  pub place : slice_index new (suc (length old)) ≡ renumbered end (suc (length old)) (slice_index old end)
+
+-- The numbers of n vertices and m edges and of `spare` more of each are small, and the tables have room for those, where
+-- there are any: as many entries as are named last fit in them.
+pub record HasRoom (n m spare ends first degree cw ccw : ℕ) : Type 0 where
+  pub vertices_few : n + spare < 2 ^ 30
+  pub edges_few : m + spare < 2 ^ 30
+  pub room_ends : 0 < spare → m + spare ≤ ends
+  pub room_first : 0 < spare → n + spare ≤ first
+  pub room_degree : 0 < spare → n + spare ≤ degree
+  pub room_cw : 0 < spare → 2 * (m + spare) ≤ cw
+  pub room_ccw : 0 < spare → 2 * (m + spare) ≤ ccw

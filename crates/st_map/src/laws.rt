@@ -1,6 +1,7 @@
 //! Laws: functions that do nothing, whose contracts are theorems.
 ghost use Rattle.st_map.specs.Embedded.{IsRotation};
 ghost use Rattle.st_map.specs.Laws.{FacesLaw};
+ghost use Rattle.st_map.specs.Split.{SplitLaw};
 
 use crate::Map;
 
@@ -8,6 +9,13 @@ use crate::Map;
 /// where steps lead from the one to the other: in every embedded graph, planar or not.
 pub fn faces()
     ensures { FacesLaw }
+{}
+
+/// An edge split by a new vertex, seen by the clockwise next of each end: the new vertex has the two parts alone, the new
+/// edge has the place of the old one at the old head, and all else stays. Afterwards each list has each end at the vertex
+/// once and no other.
+pub fn split()
+    ensures { SplitLaw }
 {}
 
 /// The edges of every map join its vertices, and each of its lists has each end at the vertex once and no other.

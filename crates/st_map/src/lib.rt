@@ -9,6 +9,7 @@ pub mod laws;
 mod links;
 mod map;
 mod orders;
+mod splitting;
 #[cfg(test)]
 mod tests;
 

@@ -1,13 +1,15 @@
 //! The map: tables by number, seen as vertices, edges and clockwise lists of ends.
-ghost use Rattle.std.specs.Prelude.{◌≡◌, ◌≢◌, ◌↔◌, ◌*◌, ◌<◌, ◌^◌, ℕ, length, slice_get, IfOk, IfErr, IfSome, IsNone, MatchOption, Some};
+ghost use Rattle.std.specs.Prelude.{◌≡◌, ◌≢◌, ◌↔◌, ◌+◌, ◌*◌, ◌<◌, ◌≤◌, ◌^◌, ℕ, length, slice_get, IfOk, IfErr, IfSome, IsNone, MatchOption, OnErr, OnOk, Some};
 ghost use Rattle.st_ids.specs.Graph.{tail_of, head_of};
 ghost use Rattle.st_map.specs.Embedded.{darts, edges, tail, head, order, at, next, IsRotation};
 ghost use Rattle.st_map.specs.Fault.{IsMapFault};
+ghost use Rattle.st_map.specs.Split.{split};
 ghost use Rattle.st_map.specs.Orders.{HasEdges, HasNoLoop, IsEdgeAt, IsOrderAt, embed, order_at};
 
 use crate::links::{first_ends, lead_back, link_lists};
 use crate::orders::{MapFault, check_orders, degrees};
-use st_ids::{Dart, Digraph, EdgeId, EdgeList, IdVec, VertexId};
+use crate::splitting::{make_room, renumber, split_links};
+use st_ids::{Dart, Digraph, EdgeId, EdgeList, IdVec, NoMemory, VertexId};
 use std::alloc::{AllocError, Global};
 use std::marker::Model;
 
@@ -27,14 +29,16 @@ pub struct Map {
 }
 
 impl Model for Map {
+    ghost use Rattle.std.specs.Prelude.{length, vec_capacity};
     ghost use Rattle.st_map.specs.Embedded.{MapValue};
-    ghost use Rattle.st_map.specs.Tables.{IsMap, rotation_of};
+    ghost use Rattle.st_map.specs.Tables.{HasRoom, IsMap, rotation_of};
 
     ghost Value = { MapValue };
 
     ghost view = { λ a. record { graph = rotation_of a.vertices a.ends.items a.first.items a.degree.items a.cw.items; spare = a.spare } };
 
-    ghost invariant = { λ a. IsMap a.vertices a.ends.items a.first.items a.degree.items a.cw.items a.ccw.items };
+    ghost invariant = { λ a. IsMap a.vertices a.ends.items a.first.items a.degree.items a.cw.items a.ccw.items
+        × HasRoom a.vertices (length a.ends.items) a.spare (vec_capacity a.ends) (vec_capacity a.first) (vec_capacity a.degree) (vec_capacity a.cw) (vec_capacity a.ccw) };
 }
 
 /// A copy of the ends of all edges.
@@ -82,6 +86,93 @@ impl Map {
             ccw,
             spare: 0,
         })
+    }
+
+    /// An equal map, whose `spare` is 0.
+    ///
+    /// Errors: `NoMemory`.
+    /// Cost: O(V + E) time. Not proved.
+    pub fn copy(&self) -> Result<Map, NoMemory>
+        ensures { IfOk result (λ m. m ≡ record { graph = self.now.graph; spare = 0 }) }
+    {
+        match self.copied() {
+            Ok(map) => Ok(map),
+            Err(_) => Err(NoMemory),
+        }
+    }
+
+    /// An equal map, whose `spare` is 0.
+    fn copied(&self) -> Result<Map, AllocError>
+        ensures { IfOk result (λ m. m ≡ record { graph = self.now.graph; spare = 0 }) }
+    {
+        let alloc = *self.ends.allocator();
+        let spare = 0;
+        Ok(Map {
+            vertices: self.vertices,
+            ends: Vec::from_slice(alloc, &self.ends)?,
+            first: Vec::from_slice(alloc, &self.first)?,
+            degree: Vec::from_slice(alloc, &self.degree)?,
+            cw: Vec::from_slice(alloc, &self.cw)?,
+            ccw: Vec::from_slice(alloc, &self.ccw)?,
+            spare,
+        })
+    }
+
+    /// Makes room for n more vertices and n more edges: afterwards `spare` is at least n.
+    ///
+    /// Errors: `NoMemory`, and the map is as before.
+    /// Cost: O(V + E + n) time. Not proved.
+    pub fn reserve(&mut self, n: u32) -> Result<(), NoMemory>
+        requires vertices { self.old.graph.vertices + n < 2 ^ 30 }
+        requires edges { edges self.old.graph + n < 2 ^ 30 }
+        ensures graph { self.new.graph ≡ self.old.graph }
+        ensures grows { self.old.spare ≤ self.new.spare }
+        ensures room { OnOk result (n ≤ self.new.spare) }
+        ensures err { OnErr result (self.new ≡ self.old) }
+    {
+        if n <= self.spare {
+            return Ok(());
+        }
+        let more = n as usize;
+        make_room(&mut self.ends, more)?;
+        make_room(&mut self.first, more)?;
+        make_room(&mut self.degree, more)?;
+        make_room(&mut self.cw, 2 * more)?;
+        make_room(&mut self.ccw, 2 * more)?;
+        self.spare = n;
+        Ok(())
+    }
+
+    /// Splits the edge e by a new vertex, and answers the vertex and the new edge, which have the next numbers. Edge e ends
+    /// at the new vertex now, and the new edge leads from there to e's old head, where its end has the place of e's. The
+    /// list of the new vertex is the new edge's end, then e's. `spare` falls by 1, and all else stays.
+    ///
+    /// Cost: O(1) time, no memory. Not proved.
+    #[tactic(auto, unfolding(st_ids::specs::Graph::tail_of, st_ids::specs::Graph::head_of))]
+    pub fn split_edge(&mut self, e: EdgeId) -> (VertexId, EdgeId)
+        requires edge { e.0 < edges self.old.graph }
+        requires spare { 1 ≤ self.old.spare }
+        ensures vertex { result.0.0 ≡ self.old.graph.vertices }
+        ensures number { result.1.0 ≡ edges self.old.graph }
+        ensures graph { self.new.graph ≡ split self.old.graph e.0 }
+        ensures spare { self.new.spare + 1 ≡ self.old.spare }
+    {
+        let vertex = self.vertices;
+        let edge = self.ends.len() as u32;
+        let (tail, head) = self.ends[e.0 as usize];
+        let end = 2 * e.0 + 1;
+        let (before, after) = (self.ccw[end as usize], self.cw[end as usize]);
+        split_links(&mut self.cw, end, before);
+        split_links(&mut self.ccw, end, after);
+        let first = self.first[head as usize];
+        self.first[head as usize] = renumber(first, end, 2 * edge + 1);
+        self.first.push_reserved(2 * edge);
+        self.degree.push_reserved(2);
+        self.ends[e.0 as usize] = (tail, vertex);
+        self.ends.push_reserved((vertex, head));
+        self.vertices += 1;
+        self.spare -= 1;
+        (VertexId(vertex), EdgeId(edge))
     }
 
     /// The number of vertices, below 2^30.

@@ -91,6 +91,21 @@ fn map_of(
     Some(Map::from_orders(alloc, &graph, &lists))
 }
 
+/// A copy with its first edge split; `None` where it has none or is large, or memory runs out.
+fn split_copy(map: &Map) -> Option<Map> {
+    let mut copy = map.copy().ok()?;
+    if copy.edges() == 0 || copy.vertices() > 100 || copy.edges() > 100 {
+        return None;
+    }
+    match copy.reserve(1) {
+        Ok(()) => {
+            copy.split_edge(EdgeId(0));
+            Some(copy)
+        }
+        Err(_) => None,
+    }
+}
+
 /// A square of two paths from 0 to 3, whose lists have the edges out and then the edges in, last first.
 #[test]
 fn a_diamond_has_its_lists(rt: HostRuntime) {
@@ -124,6 +139,32 @@ fn a_diamond_has_its_lists(rt: HostRuntime) {
             assert_eq!(rt; map.next_ccw(Dart(next)), Dart(end), "at {end}");
         }
     }
+}
+
+/// The first edge of a square is split in a copy.
+#[test]
+fn a_split_edge_has_its_new_vertex_in_the_middle(rt: HostRuntime) {
+    let edges = [(0, 1), (0, 2), (1, 3), (2, 3)];
+    let lists: [&[u32]; 4] = [&[0, 1], &[2, 0], &[3, 1], &[3, 2]];
+    let made = map_of(rt.alloc(), 4, &edges, &lists).expect(&rt, "memory");
+    let map = made.expect(&rt, "lawful lists");
+    let copy = split_copy(&map).expect(&rt, "memory");
+    assert_eq!(rt; (copy.vertices(), copy.edges()), (5, 5));
+    if copy.vertices() == 5 && copy.edges() == 5 {
+        for (e, tail, head) in [(0, 0, 4), (4, 4, 1), (2, 1, 3)] {
+            let edge = EdgeId(e);
+            assert_eq!(rt;
+                (copy.tail(edge), copy.head(edge)),
+                (VertexId(tail), VertexId(head)),
+                "edge {e}"
+            );
+        }
+        assert_eq!(rt; copy.at(VertexId(4)), Some(Dart(8)));
+        for (end, next) in [(8, 1), (1, 8), (4, 9), (9, 4)] {
+            assert_eq!(rt; copy.next_cw(Dart(end)), Dart(next), "at {end}");
+        }
+    }
+    assert_eq!(rt; (map.vertices(), map.edges()), (4, 4));
 }
 
 #[test]

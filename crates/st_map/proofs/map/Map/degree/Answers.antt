@@ -11,5 +11,5 @@ returns c =
     let nv : c.self.inside.vertices ≡ c.args.self.now.graph.vertices = ap (λ (z : Embedded). z.vertices) eq in
     let lv : c.args.v.0 < c.self.inside.vertices = omega (arith, c.requires) in
     let d : c.index.result.now ≡ get_or c.self.inside.degree.items c.args.v.0 0 =
-    c.index.ensures ∙ get_or_default c.self.inside.degree.items c.args.v.0 c.index.result.now 0 (omega (arith, c.self.invariant.degrees)) in
-    d ∙ degree_is c.self.inside.vertices c.self.inside.ends.items c.self.inside.first.items c.self.inside.degree.items c.self.inside.cw.items c.self.inside.ccw.items c.self.invariant c.args.v.0 lv ∙ ap (λ (g : Embedded). length (order g c.args.v.0)) eq
+    c.index.ensures ∙ get_or_default c.self.inside.degree.items c.args.v.0 c.index.result.now 0 (omega (arith, c.self.invariant.0.degrees)) in
+    d ∙ degree_is c.self.inside.vertices c.self.inside.ends.items c.self.inside.first.items c.self.inside.degree.items c.self.inside.cw.items c.self.inside.ccw.items c.self.invariant.0 c.args.v.0 lv ∙ ap (λ (g : Embedded). length (order g c.args.v.0)) eq

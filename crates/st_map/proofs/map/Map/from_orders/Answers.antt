@@ -7,6 +7,7 @@ use Rattle.st_map.specs.Tables.{AreEdges, IsBack, IsLawful, IsMap, rotation_of}
 use Rattle.st_map.proofs.OrderLemmas.{lawful_of}
 use Rattle.st_map.proofs.TableLemmas.{is_map, listed_edges, permutes, rotation_is, same_graph}
 use Rattle.std.proofs.Common.{length, get_or}
+use Rattle.st_map.proofs.SplitTables.{no_spare}
 use Rattle.st_map.proofs.map.Map.from_orders.Goals as goal
 
 pub check_orders-requires-clause-edges : goal.check_orders-requires-clause-edges
@@ -56,8 +57,10 @@ invariant_of-result c =
     λ v l. lawful_of c.ends-ends.result.now v (order_at c.args.orders.now v) (c.in_ok-check_orders.ensures v l) in
     let back : IsBack c.in_ok-cw.cw.items c.in_ok-ccw.ccw.items = subst (λ (z : List ℕ). IsBack z c.in_ok-ccw.ccw.items) c.deref-2.ensures.value c.in_ok-ccw.ensures in
     let few : c.vertices-n.result < 2 ^ 30 = omega (arith, c.vertices-n.ensures.value, c.vertices-n.ensures.few) in
+    let m : IsMap c.vertices-n.result c.in_ok-ends.ends.items c.in_ok-first.first.items c.in_ok-degree.degree.items c.in_ok-cw.cw.items c.in_ok-ccw.ccw.items =
     subst (λ (z : List (ℕ × ℕ)). IsMap c.vertices-n.result z c.in_ok-first.first.items c.in_ok-degree.degree.items c.in_ok-cw.cw.items c.in_ok-ccw.ccw.items) (sym c.in_ok-ends.ensures)
-    (is_map h c.args.orders.now within no_loop listed lawful c.in_ok-first.first.items c.in_ok-degree.degree.items c.in_ok-cw.cw.items c.in_ok-ccw.ccw.items c.in_ok-first.ensures c.in_ok-degree.ensures c.in_ok-cw.ensures back few c.ends-ends.ensures.few)
+    (is_map h c.args.orders.now within no_loop listed lawful c.in_ok-first.first.items c.in_ok-degree.degree.items c.in_ok-cw.cw.items c.in_ok-ccw.ccw.items c.in_ok-first.ensures c.in_ok-degree.ensures c.in_ok-cw.ensures back few c.ends-ends.ensures.few) in
+    (m, no_spare m.vertices_few m.edges_few)
 
 pub returns-clause-map : goal.returns-clause-map
 returns-clause-map c =

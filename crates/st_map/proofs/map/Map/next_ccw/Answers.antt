@@ -12,11 +12,11 @@ returns-clause-value c =
     let ld : c.args.d.0 < 2 * length c.self.inside.ends.items = omega (arith, c.requires) in
     let r : c.index.result.now ≡ get_or c.self.inside.ccw.items c.args.d.0 0 =
     c.index.ensures ∙ get_or_default c.self.inside.ccw.items c.args.d.0 c.index.result.now 0
-    (omega (arith, c.self.invariant.clockwise.size, c.self.invariant.counter.size)) in
+    (omega (arith, c.self.invariant.0.clockwise.size, c.self.invariant.0.counter.size)) in
     let back : (get_or c.self.inside.ccw.items c.args.d.0 0 < 2 * length c.self.inside.ends.items)
     × (next (rotation_of c.self.inside.vertices c.self.inside.ends.items c.self.inside.first.items c.self.inside.degree.items c.self.inside.cw.items) (get_or c.self.inside.ccw.items c.args.d.0 0) ≡ c.args.d.0)
     × (at (rotation_of c.self.inside.vertices c.self.inside.ends.items c.self.inside.first.items c.self.inside.degree.items c.self.inside.cw.items) (get_or c.self.inside.ccw.items c.args.d.0 0) ≡ at (rotation_of c.self.inside.vertices c.self.inside.ends.items c.self.inside.first.items c.self.inside.degree.items c.self.inside.cw.items) c.args.d.0) =
-    back_is c.self.inside.vertices c.self.inside.ends.items c.self.inside.first.items c.self.inside.degree.items c.self.inside.cw.items c.self.inside.ccw.items c.self.invariant c.args.d.0 ld in
+    back_is c.self.inside.vertices c.self.inside.ends.items c.self.inside.first.items c.self.inside.degree.items c.self.inside.cw.items c.self.inside.ccw.items c.self.invariant.0 c.args.d.0 ld in
     subst (λ (g : Embedded). next g c.index.result.now ≡ c.args.d.0) eq (ap (next (rotation_of c.self.inside.vertices c.self.inside.ends.items c.self.inside.first.items c.self.inside.degree.items c.self.inside.cw.items)) r ∙ back.1)
 
 pub returns-clause-within : goal.returns-clause-within
@@ -26,11 +26,11 @@ returns-clause-within c =
     let ld : c.args.d.0 < 2 * length c.self.inside.ends.items = omega (arith, c.requires) in
     let r : c.index.result.now ≡ get_or c.self.inside.ccw.items c.args.d.0 0 =
     c.index.ensures ∙ get_or_default c.self.inside.ccw.items c.args.d.0 c.index.result.now 0
-    (omega (arith, c.self.invariant.clockwise.size, c.self.invariant.counter.size)) in
+    (omega (arith, c.self.invariant.0.clockwise.size, c.self.invariant.0.counter.size)) in
     let back : (get_or c.self.inside.ccw.items c.args.d.0 0 < 2 * length c.self.inside.ends.items)
     × (next (rotation_of c.self.inside.vertices c.self.inside.ends.items c.self.inside.first.items c.self.inside.degree.items c.self.inside.cw.items) (get_or c.self.inside.ccw.items c.args.d.0 0) ≡ c.args.d.0)
     × (at (rotation_of c.self.inside.vertices c.self.inside.ends.items c.self.inside.first.items c.self.inside.degree.items c.self.inside.cw.items) (get_or c.self.inside.ccw.items c.args.d.0 0) ≡ at (rotation_of c.self.inside.vertices c.self.inside.ends.items c.self.inside.first.items c.self.inside.degree.items c.self.inside.cw.items) c.args.d.0) =
-    back_is c.self.inside.vertices c.self.inside.ends.items c.self.inside.first.items c.self.inside.degree.items c.self.inside.cw.items c.self.inside.ccw.items c.self.invariant c.args.d.0 ld in
+    back_is c.self.inside.vertices c.self.inside.ends.items c.self.inside.first.items c.self.inside.degree.items c.self.inside.cw.items c.self.inside.ccw.items c.self.invariant.0 c.args.d.0 ld in
     omega (arith, back.0)
 
 pub returns-clause-vertex : goal.returns-clause-vertex
@@ -40,9 +40,9 @@ returns-clause-vertex c =
     let ld : c.args.d.0 < 2 * length c.self.inside.ends.items = omega (arith, c.requires) in
     let r : c.index.result.now ≡ get_or c.self.inside.ccw.items c.args.d.0 0 =
     c.index.ensures ∙ get_or_default c.self.inside.ccw.items c.args.d.0 c.index.result.now 0
-    (omega (arith, c.self.invariant.clockwise.size, c.self.invariant.counter.size)) in
+    (omega (arith, c.self.invariant.0.clockwise.size, c.self.invariant.0.counter.size)) in
     let back : (get_or c.self.inside.ccw.items c.args.d.0 0 < 2 * length c.self.inside.ends.items)
     × (next (rotation_of c.self.inside.vertices c.self.inside.ends.items c.self.inside.first.items c.self.inside.degree.items c.self.inside.cw.items) (get_or c.self.inside.ccw.items c.args.d.0 0) ≡ c.args.d.0)
     × (at (rotation_of c.self.inside.vertices c.self.inside.ends.items c.self.inside.first.items c.self.inside.degree.items c.self.inside.cw.items) (get_or c.self.inside.ccw.items c.args.d.0 0) ≡ at (rotation_of c.self.inside.vertices c.self.inside.ends.items c.self.inside.first.items c.self.inside.degree.items c.self.inside.cw.items) c.args.d.0) =
-    back_is c.self.inside.vertices c.self.inside.ends.items c.self.inside.first.items c.self.inside.degree.items c.self.inside.cw.items c.self.inside.ccw.items c.self.invariant c.args.d.0 ld in
+    back_is c.self.inside.vertices c.self.inside.ends.items c.self.inside.first.items c.self.inside.degree.items c.self.inside.cw.items c.self.inside.ccw.items c.self.invariant.0 c.args.d.0 ld in
     subst (λ (g : Embedded). at g c.index.result.now ≡ at g c.args.d.0) eq (ap (at (rotation_of c.self.inside.vertices c.self.inside.ends.items c.self.inside.first.items c.self.inside.degree.items c.self.inside.cw.items)) r ∙ back.2)

@@ -11,9 +11,9 @@ returns-clause-within c =
     let nd : darts (rotation_of c.self.inside.vertices c.self.inside.ends.items c.self.inside.first.items c.self.inside.degree.items c.self.inside.cw.items) ≡ darts c.args.self.now.graph = ap (λ (z : Embedded). darts z) eq in
     let ld : c.args.d.0 < 2 * length c.self.inside.ends.items = omega (arith, c.requires) in
     let r : c.index.result.now ≡ next (rotation_of c.self.inside.vertices c.self.inside.ends.items c.self.inside.first.items c.self.inside.degree.items c.self.inside.cw.items) c.args.d.0 =
-    c.index.ensures ∙ get_or_default c.self.inside.cw.items c.args.d.0 c.index.result.now 0 (omega (arith, c.self.invariant.clockwise.size))
-    ∙ c.self.invariant.clockwise.each c.args.d.0 ld in
-    omega (arith, next_below c.self.inside.vertices c.self.inside.ends.items c.self.inside.first.items c.self.inside.degree.items c.self.inside.cw.items c.self.inside.ccw.items c.self.invariant c.args.d.0 ld)
+    c.index.ensures ∙ get_or_default c.self.inside.cw.items c.args.d.0 c.index.result.now 0 (omega (arith, c.self.invariant.0.clockwise.size))
+    ∙ c.self.invariant.0.clockwise.each c.args.d.0 ld in
+    omega (arith, next_below c.self.inside.vertices c.self.inside.ends.items c.self.inside.first.items c.self.inside.degree.items c.self.inside.cw.items c.self.inside.ccw.items c.self.invariant.0 c.args.d.0 ld)
 
 pub returns-clause-vertex : goal.returns-clause-vertex
 returns-clause-vertex c =
@@ -21,7 +21,7 @@ returns-clause-vertex c =
     let nd : darts (rotation_of c.self.inside.vertices c.self.inside.ends.items c.self.inside.first.items c.self.inside.degree.items c.self.inside.cw.items) ≡ darts c.args.self.now.graph = ap (λ (z : Embedded). darts z) eq in
     let ld : c.args.d.0 < 2 * length c.self.inside.ends.items = omega (arith, c.requires) in
     let r : c.index.result.now ≡ next (rotation_of c.self.inside.vertices c.self.inside.ends.items c.self.inside.first.items c.self.inside.degree.items c.self.inside.cw.items) c.args.d.0 =
-    c.index.ensures ∙ get_or_default c.self.inside.cw.items c.args.d.0 c.index.result.now 0 (omega (arith, c.self.invariant.clockwise.size))
-    ∙ c.self.invariant.clockwise.each c.args.d.0 ld in
+    c.index.ensures ∙ get_or_default c.self.inside.cw.items c.args.d.0 c.index.result.now 0 (omega (arith, c.self.invariant.0.clockwise.size))
+    ∙ c.self.invariant.0.clockwise.each c.args.d.0 ld in
     subst (λ (g : Embedded). at g c.index.result.now ≡ at g c.args.d.0) eq
-    (ap (at (rotation_of c.self.inside.vertices c.self.inside.ends.items c.self.inside.first.items c.self.inside.degree.items c.self.inside.cw.items)) r ∙ at_next c.self.inside.vertices c.self.inside.ends.items c.self.inside.first.items c.self.inside.degree.items c.self.inside.cw.items c.self.inside.ccw.items c.self.invariant c.args.d.0 ld)
+    (ap (at (rotation_of c.self.inside.vertices c.self.inside.ends.items c.self.inside.first.items c.self.inside.degree.items c.self.inside.cw.items)) r ∙ at_next c.self.inside.vertices c.self.inside.ends.items c.self.inside.first.items c.self.inside.degree.items c.self.inside.cw.items c.self.inside.ccw.items c.self.invariant.0 c.args.d.0 ld)
