@@ -1,0 +1,78 @@
+-- Whether an arc is transitive can be decided.
+use Rattle.std.proofs.Common.{◌≡◌, ◌≢◌, ℕ, zero, suc, ◌<◌, List, ◌∷◌, ◌⊎◌, inl, inr, sym, subst, arith}
+use Rattle.std.proofs.lemmas.Bool.{cases_eq, cases_lt}
+use Rattle.st_ids.specs.Lists.{In, here}
+use Rattle.st_ids.specs.Walks.{Arcs, Walk, stay, step, IsAcyclic}
+use Rattle.st_ids.specs.Walks.{Reaches as Leads}
+use Rattle.st_ids.proofs.ListLemmas.{In-cases}
+use Rattle.st_ids.proofs.WalkLemmas.{reach_refl, reach_trans, no_loop, on_walk}
+use Rattle.st_ids.proofs.FiniteLemmas.{IsWithin, up}
+use Rattle.st_reduce.specs.Transitive.{IsTransitive}
+
+abbrev Decided : (ℕ → Type 0) → Type 0
+Decided D = (x : ℕ) → D x ⊎ (D x → ⊥)
+
+any_below : (D : ℕ → Type 0) → Decided D → (n : ℕ) → ((y : ℕ) × (y < n) × D y) ⊎ ((y : ℕ) → y < n → D y → ⊥)
+any_below D dec zero = inr (λ y l d. absurd (omega arith))
+any_below D dec (suc m) = elim (dec m) [
+  | inl d ↦ inl (m, omega arith, d)
+  | inr n ↦ elim (any_below D dec m) [
+    | inl h ↦ inl (h.0, (let k : h.0 < m = h.1 in omega arith), h.2)
+    | inr h ↦ inr (λ y l d. elim (cases_eq y m) [ inl q ↦ n (subst D q d) | inr q ↦ h y (omega arith) d ])
+  ]
+]
+
+-- ---- reaching and transitive arcs can be decided
+module _ (D : Arcs) (n : ℕ) (acyclic : IsAcyclic D) (within : IsWithin D n) where
+  goes : (u v : ℕ) → ((e : ℕ) → e < D.count → D.from e ≡ u → Leads D (D.to e) v ⊎ (Leads D (D.to e) v → ⊥)) → Decided (λ e. (e < D.count) × (D.from e ≡ u) × Leads D (D.to e) v)
+  goes u v ih e = elim (cases_lt e D.count) [
+    | inr k ↦ inr (λ h. (let z : e < D.count = h.0 in omega arith))
+    | inl k ↦ elim (cases_eq (D.from e) u) [
+      | inr m ↦ inr (λ h. m h.1)
+      | inl q ↦ elim (ih e k q) [ inl r ↦ inl (k, q, r) | inr m ↦ inr (λ h. m h.2) ]
+    ]
+  ]
+
+  leads_dec : (u : ℕ) → u < n → (v : ℕ) → Leads D u v ⊎ (Leads D u v → ⊥)
+  leads_dec = up D n acyclic within (λ u. (v : ℕ) → Leads D u v ⊎ (Leads D u v → ⊥)) (λ u i ih v. elim (cases_eq u v) [
+    | inl q ↦ inl (reach_refl q)
+    | inr d ↦ elim (any_below (λ e. (e < D.count) × (D.from e ≡ u) × Leads D (D.to e) v) (goes u v (λ e k q. ih e k q v)) D.count) [
+      | inl h ↦ inl (record { way = h.0 ∷ h.2.2.way; walk = step h.2.0 h.2.1 h.2.2.walk })
+      | inr none ↦ inr (λ r. not_by u v d none r.way r.walk)
+    ]
+  ])
+    where
+      not_by : (u v : ℕ) → u ≢ v → ((e : ℕ) → e < D.count → (e < D.count) × (D.from e ≡ u) × Leads D (D.to e) v → ⊥) → (es : List ℕ) → Walk D u es v → ⊥
+      not_by u v d none es (stay q) = d q
+      not_by u v d none es (step {e = e} {es = ds} a f w) = none e a (a, f, record { way = ds; walk = w })
+
+  branches : (a : ℕ) → Decided (λ e. (e < D.count) × (e ≢ a) × (D.from e ≡ D.from a) × Leads D (D.to e) (D.to a))
+  branches a e = elim (cases_lt e D.count) [
+    | inr k ↦ inr (λ h. (let z : e < D.count = h.0 in omega arith))
+    | inl k ↦ elim (cases_eq e a) [
+      | inl q ↦ inr (λ h. h.1 q)
+      | inr d ↦ elim (cases_eq (D.from e) (D.from a)) [
+        | inr m ↦ inr (λ h. m h.2)
+        | inl q ↦ elim (leads_dec (D.to e) (within.to_in e k) (D.to a)) [ inl r ↦ inl (k, d, q, r) | inr m ↦ inr (λ h. m h.3) ]
+      ]
+    ]
+  ]
+
+  pub transitive_dec : (a : ℕ) → a < D.count → IsTransitive D a ⊎ (IsTransitive D a → ⊥)
+  transitive_dec a la = elim (any_below (λ e. (e < D.count) × (e ≢ a) × (D.from e ≡ D.from a) × Leads D (D.to e) (D.to a)) (branches a) D.count) [
+    | inl h ↦
+        let r = h.2.3 in
+        inl (record {
+          way = h.0 ∷ r.way;
+          walk = step h.2.0 h.2.2 r.walk;
+          without = λ i. elim (In-cases i) [
+            | inl q ↦ h.2.1 (sym q)
+            | inr j ↦ no_loop acyclic h.0 h.2.0 (reach_trans (on_walk r.walk j).before (reach_refl (sym h.2.2)))
+          ];
+        })
+    | inr none ↦ inr (λ T. not_by none T.way T.walk T.without)
+  ]
+    where
+      not_by : ((e : ℕ) → e < D.count → (e < D.count) × (e ≢ a) × (D.from e ≡ D.from a) × Leads D (D.to e) (D.to a) → ⊥) → (es : List ℕ) → Walk D (D.from a) es (D.to a) → (In a es → ⊥) → ⊥
+      not_by none es (stay q) out = no_loop acyclic a la (reach_refl (sym q))
+      not_by none es (step {e = e} {es = ds} k f w) out = none e k (k, (λ q. out (here (sym q))), f, record { way = ds; walk = w })

@@ -1,0 +1,11 @@
+pub mod RootLemmas
+pub mod BoundLemmas
+pub mod ArcLemmas
+pub mod SplitLemmas
+pub mod DecideLemmas
+pub mod ReducedLemmas
+pub mod TransitiveLemmas
+pub mod MarkLemmas
+pub mod MarkedLemmas
+pub mod StarStepLemmas
+pub mod ReducedSidesLemmas

@@ -1,0 +1,4 @@
+pub mod Transitive
+pub mod Reduced
+pub mod Marks
+pub mod ReducedSides
