@@ -9,3 +9,4 @@ pub mod MarkLemmas
 pub mod MarkedLemmas
 pub mod StarStepLemmas
 pub mod ReducedSidesLemmas
+pub mod OneLemmas

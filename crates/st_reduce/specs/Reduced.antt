@@ -8,6 +8,7 @@
 --   IsReduced g ds h             the reduced graph, with the dummies
 --   dummy_at ds e                the new vertex in the middle of e, if any
 --   ReducedLaw                   there is one, it is a planar st-graph without transitive edges, and reaching stays
+--   OneReducedLaw                there is one alone, with one list of dummies
 use Rattle.std.specs.Prelude.{ℕ, suc, ◌≡◌, ◌<◌, ◌≤◌, ◌↔◌, List, [], ◌∷◌, ◌++◌, length, slice_index_or, Option, Some, None}
 use Rattle.st_ids.specs.Graph.{arcs_of}
 use Rattle.st_ids.specs.Walks.{Reaches}
@@ -58,3 +59,7 @@ pub record ReducedIs (g : Embedded) (s t outer : ℕ) (ds : List (Option ℕ)) (
 abbrev pub ReducedLaw : Type 0
 ReducedLaw = (g : Embedded) (s t outer : ℕ) → IsPlanarSt g s t outer
     → ((ds : List (Option ℕ)) × (h : Embedded) × IsReduced g ds h) × ((ds : List (Option ℕ)) (h : Embedded) → IsReduced g ds h → ReducedIs g s t outer ds h)
+
+-- two reduced graphs of one graph are the same, and so are their dummies
+abbrev pub OneReducedLaw : Type 0
+OneReducedLaw = (g : Embedded) (ds ds' : List (Option ℕ)) (h h' : Embedded) → IsReduced g ds h → IsReduced g ds' h' → (ds ≡ ds') × (h ≡ h')

@@ -1,6 +1,6 @@
 //! Laws of edges that are split, and of transitive edges: empty functions, whose contracts are theorems about the
 //! definitions of specs/.
-ghost use Rattle.st_reduce.specs.Reduced.{ReducedLaw, SplitLaw};
+ghost use Rattle.st_reduce.specs.Reduced.{OneReducedLaw, ReducedLaw, SplitLaw};
 ghost use Rattle.st_reduce.specs.ReducedSides.{ReducedSidesLaw};
 ghost use Rattle.st_reduce.specs.Transitive.{TransitiveLaw};
 
@@ -28,4 +28,9 @@ pub fn reduced()
 /// leads to its new vertex, and its second part from there to the old head.
 pub fn reduced_sides()
     ensures { ReducedSidesLaw }
+{}
+
+/// A graph has one reduced graph, with one list of dummies.
+pub fn one_reduced()
+    ensures { OneReducedLaw }
 {}
