@@ -1,0 +1,9 @@
+pub mod AlongLemmas
+pub mod BuildLemmas
+pub mod CompactLemmas
+pub mod DirectionLemmas
+pub mod DominanceLemmas
+pub mod DotLemmas
+pub mod LaidLemmas
+pub mod PictureLemmas
+pub mod ReadLemmas

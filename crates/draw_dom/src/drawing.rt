@@ -1,0 +1,87 @@
+//! Dominance pictures, from a graph to its picture and points.
+ghost use Rattle.std.specs.Prelude.{◌≡◌, ℕ, ◌+◌, ◌<◌, ◌≤◌, ◌^◌, ◌↔◌, length, slice_get, IfOk};
+ghost use Rattle.draw_dom.specs.Points.{AreAtMost};
+ghost use Rattle.draw_dom.specs.Shown.{IsDominanceOf, IsLaid};
+ghost use Rattle.st_ids.specs.Graph.{arcs_of};
+ghost use Rattle.st_ids.specs.Walks.{Reaches};
+ghost use Rattle.st_map.specs.Embedded.{bare};
+ghost use Rattle.st_picture.specs.Drawn.{IsDrawn};
+ghost use Rattle.st_picture.specs.Naming.{AreNames};
+ghost use Rattle.st_sides.specs.Sides.{edge_count};
+ghost use Rattle.st_sides.specs.SidesOf.{IsSidesOf};
+
+use crate::compaction::compact;
+use crate::items::points_and_lines;
+use crate::{shown, table};
+use st_ids::{IdVec, Names, NoMemory, VertexId};
+use st_order::labels;
+use st_reduce::reduce;
+use st_shape::Point;
+use st_sides::{Sides, laws};
+use st_test::StGraph;
+use st_test::laws::planar_st;
+use std::alloc::Global;
+
+/// The compact point of each vertex of the graph, for its two numbers.
+fn laid(alloc: Global, graph: &StGraph) -> Result<table::Compact, NoMemory>
+    ensures { IfOk result (IsLaid graph.now.map.graph graph.now.source graph.now.sink graph.now.outer) }
+{
+    let sides = Sides::of(alloc, graph)?;
+    laws::local(&sides);
+    sides.facts();
+    let numbers = labels(alloc, &sides)?;
+    compact(alloc, &numbers)
+}
+
+/// The points of the first n vertices.
+fn first_points(
+    alloc: Global,
+    points: &table::Compact,
+    n: u32,
+) -> Result<IdVec<VertexId, Point>, NoMemory>
+    requires there { n ≤ length points.now }
+    requires few { n < 2 ^ 30 }
+    ensures size { IfOk result (λ first. length first ≡ n) }
+    ensures each { IfOk result (λ first. (v : ℕ) → v < n → slice_get first v ≡ slice_get points.now v) }
+{
+    let mut first = IdVec::new(alloc);
+    for v in 0..n {
+        first.push(points.point(VertexId(v)))?;
+    }
+    Ok(first)
+}
+
+/// The dominance picture, and the point of each vertex. A vertex is a dot at its compact point in the reduced graph, in which
+/// each transitive edge is split by a dummy; an edge is the straight line between its dots, and a transitive edge goes by the
+/// point of its dummy, which stays a point of the line where it lies straight between. A label stands at its dot. The items
+/// are the vertices, the edges and the labels, in the order of the file. The frame is the point of the sink.
+///
+/// One vertex reaches another exactly where its point is at most the other's.
+///
+/// Conditions: the sides are those of the graph, the names are for it, and there are at most 50,000,000 vertices and edges
+/// together.
+/// Errors: `NoMemory`. The graph is given up then.
+/// Cost: O(V + E) time, and memory for the reduced graph, its sides and its points beside the picture. Not proved.
+pub fn dominance(
+    alloc: Global,
+    graph: StGraph,
+    sides: &Sides,
+    names: &Names,
+) -> Result<shown::Dominance, NoMemory>
+    requires sides { IsSidesOf graph.map.graph graph.source graph.sink graph.outer sides.now }
+    requires names { AreNames sides.now names.now }
+    requires few { sides.now.vertices + edge_count sides.now ≤ 50000000 }
+
+    ensures picture { IfOk result (λ d. IsDominanceOf graph.map.graph graph.source graph.sink graph.outer sides.now names.now d.picture d.points) }
+    ensures drawn { IfOk result (λ d. IsDrawn sides.now d.picture) }
+    ensures reaching { IfOk result (λ d. (u v : ℕ) → u < graph.map.graph.vertices → v < graph.map.graph.vertices → Reaches (arcs_of (bare graph.map.graph)) u v ↔ AreAtMost d.points u v) }
+{
+    planar_st(&graph);
+    laws::local(sides);
+    let reduced = reduce(alloc, graph, sides)?;
+    planar_st(&reduced.graph);
+    let points = laid(alloc, &reduced.graph)?;
+    let picture = points_and_lines(alloc, sides, &points, &reduced.dummy, names)?;
+    let points = first_points(alloc, &points, sides.vertices())?;
+    Ok(shown::Dominance { picture, points })
+}

@@ -1,0 +1,20 @@
+//! Dominance pictures of planar st-graphs: vertices as dots that show what they reach, and edges as straight lines.
+//!
+//! Each vertex has two numbers that decide reaching. Its compact point counts, in the order of each number, the steps that
+//! are needed to tell vertices apart. Transitive edges are split first, and drawn by the point of their new vertex. After Di
+//! Battista, Tamassia and Tollis, Area requirement and symmetry display of planar upward drawings (1992).
+#![tactic(auto)]
+
+mod compaction;
+mod drawing;
+#[cfg(test)]
+mod drawing_tests;
+mod items;
+pub mod laws;
+mod shown;
+mod table;
+
+pub use compaction::compact;
+pub use drawing::dominance;
+pub use shown::Dominance;
+pub use table::Compact;
