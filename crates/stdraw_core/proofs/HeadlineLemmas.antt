@@ -15,16 +15,17 @@ use Rattle.st_sides.proofs.MeaningLemmas.{meaning_law}
 use Rattle.st_sides.proofs.NormalLemmas.{order_law}
 use Rattle.st_ids.specs.declared.names.Names.{Names}
 use Rattle.st_picture.specs.Naming.{AreNames}
-use Rattle.st_test.specs.Planar.{StValue}
+use Rattle.st_test.specs.Planar.{IsPlanarSt, StValue}
 use Rattle.st_test.specs.PolesAnswer.{OnePolesAnswer}
 use Rattle.draw_vis.proofs.NumberLemmas.{visibility_drawn}
 use Rattle.draw_vis.proofs.TileLemmas.{tessellation_drawn}
 use Rattle.draw_poly.proofs.NumberLemmas.{polyline_drawn}
 use Rattle.stdraw_core.proofs.PolylineLemmas.{long}
+use Rattle.stdraw_core.proofs.DominanceLemmas.{right_dominance}
 use Rattle.stdraw_core.specs.declared.words.Command.{Command}
 use Rattle.stdraw_core.specs.declared.words.Command.TheVariants.{Draw}
 use Rattle.stdraw_core.specs.declared.words.DrawForm.{DrawForm}
-use Rattle.stdraw_core.specs.declared.words.DrawForm.TheVariants.{Visibility, Tessellation, Polyline}
+use Rattle.stdraw_core.specs.declared.words.DrawForm.TheVariants.{Visibility, Tessellation, Polyline, Dominance}
 use Rattle.stdraw_core.specs.declared.stop.Refusal.{Refusal}
 use Rattle.stdraw_core.specs.declared.stop.Status.{Status}
 use Rattle.stdraw_core.specs.declared.stop.Status.TheVariants as status
@@ -89,10 +90,11 @@ output_of bytes form out h =
     }
 
 -- ---- the picture is right
-right_picture : (form : DrawForm) (g : Embedded) (s t outer : ℕ) (x : SidesValue) → IsSidesOf g s t outer x → IsSides x → (N : Names) → AreNames x N → (d : Drawing) → IsPictureOf form g x N d → IsRightPicture form x d
-right_picture Visibility g s t outer x of is N names d h = visibility_drawn x is one_each (λ e l. omega arith) N names d h
-right_picture Tessellation g s t outer x of is N names d h = tessellation_drawn x is one_each (λ e l. omega arith) N names d h
-right_picture (Polyline spot) g s t outer x of is N names d h = polyline_drawn x is h.weight (long g s t outer x of is h.weight h.rows) h.column N names d h.picture
+right_picture : (form : DrawForm) (st : StValue) (x : SidesValue) → IsPlanarSt st.map.graph st.source st.sink st.outer → IsSidesOf st.map.graph st.source st.sink st.outer x → IsSides x → (N : Names) → AreNames x N → (d : Drawing) → IsPictureOf form st x N d → IsRightPicture form x d
+right_picture Visibility st x planar of is N names d h = visibility_drawn x is one_each (λ e l. omega arith) N names d h
+right_picture Tessellation st x planar of is N names d h = tessellation_drawn x is one_each (λ e l. omega arith) N names d h
+right_picture (Polyline spot) st x planar of is N names d h = polyline_drawn x is h.weight (long st.map.graph st.source st.sink st.outer x of is h.weight h.rows) h.column N names d h.picture
+right_picture Dominance st x planar of is N names d h = right_dominance st x planar of is N names d h
 
 shows_file : (bytes : List ℕ) (form : DrawForm) (g : InputGraph) (st : StValue) (out : List ℕ) → IsPlanarFile bytes g st → Draws form g st out → ShowsFile form g st out
 shows_file bytes form g st out file h =
@@ -101,7 +103,7 @@ shows_file bytes form g st out file h =
     let here : IsSides h.sides = meaning_law st.map.graph st.source st.sink st.outer h.sides is.planar h.are.sides in
     record {
       drawn = h;
-      right = right_picture form st.map.graph st.source st.sink st.outer h.sides h.are.sides here (file_names g) (names_meet g st h.sides tables is h.are.sides) h.picture h.is;
+      right = right_picture form st h.sides is.planar h.are.sides here (file_names g) (names_meet g st h.sides tables is h.are.sides) h.picture h.is;
       orders = λ v l. order_law st.map.graph st.source st.sink st.outer h.sides is.planar h.are.sides v l;
     }
 

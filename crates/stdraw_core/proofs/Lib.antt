@@ -4,6 +4,7 @@ pub mod WordLemmas
 pub mod VerdictLemmas
 pub mod DrawingLemmas
 pub mod PolylineLemmas
+pub mod DominanceLemmas
 pub mod StageLemmas
 pub mod VerdictOne
 pub mod OneAnswer

@@ -9,7 +9,7 @@ use Rattle.st_test.specs.PolesAnswer.{OnePolesAnswer}
 use Rattle.stdraw_core.specs.declared.words.Command.{Command}
 use Rattle.stdraw_core.specs.declared.words.Command.TheVariants.{Query, Test, Draw}
 use Rattle.stdraw_core.specs.declared.words.DrawForm.{DrawForm}
-use Rattle.stdraw_core.specs.declared.words.DrawForm.TheVariants.{Visibility, Tessellation, Polyline}
+use Rattle.stdraw_core.specs.declared.words.DrawForm.TheVariants.{Visibility, Tessellation, Polyline, Dominance}
 use Rattle.stdraw_core.specs.declared.words.Spot.{Spot}
 use Rattle.stdraw_core.specs.declared.words.Spot.TheVariants.{Left, Middle, Right}
 use Rattle.stdraw_core.specs.declared.stop.Refusal.{Refusal}
@@ -31,6 +31,7 @@ use Rattle.draw_vis.proofs.SameLemmas.{pictures_law}
 use Rattle.stdraw_core.specs.Drawing.{one_each, file_names, IsPictureOf, Draws}
 use Rattle.stdraw_core.proofs.DrawingLemmas.{found}
 use Rattle.stdraw_core.proofs.PolylineLemmas.{one_polyline}
+use Rattle.stdraw_core.proofs.DominanceLemmas.{one_dominance}
 use Rattle.stdraw_core.proofs.StageLemmas.{ok, err, one_then, same_bool}
 use Rattle.stdraw_core.proofs.VerdictOne.{accepted_one}
 
@@ -76,6 +77,7 @@ form_letter : DrawForm → ℕ
 form_letter Visibility = 118
 form_letter Tessellation = 116
 form_letter (Polyline spot) = 112
+form_letter Dominance = 100
 
 spot_letter : Spot → ℕ
 spot_letter Left = 108
@@ -87,6 +89,7 @@ unfolding first_letter form_letter
 form_first Visibility = refl
 form_first Tessellation = refl
 form_first (Polyline spot) = refl
+form_first Dominance = refl
 
 spot_second : (spot : Spot) → second_letter (form_words (Polyline spot)) ≡ spot_letter spot
 unfolding second_letter spot_letter
@@ -112,12 +115,19 @@ unfolding form_letter
 by_letters Visibility Visibility w e = refl
 by_letters Visibility Tessellation w e = absurd (omega (arith, e))
 by_letters Visibility (Polyline s) w e = absurd (omega (arith, e))
+by_letters Visibility Dominance w e = absurd (omega (arith, e))
 by_letters Tessellation Visibility w e = absurd (omega (arith, e))
 by_letters Tessellation Tessellation w e = refl
 by_letters Tessellation (Polyline s) w e = absurd (omega (arith, e))
+by_letters Tessellation Dominance w e = absurd (omega (arith, e))
 by_letters (Polyline s) Visibility w e = absurd (omega (arith, e))
 by_letters (Polyline s) Tessellation w e = absurd (omega (arith, e))
 by_letters (Polyline s) (Polyline s') w e = ap (λ z. Polyline z) (same_spot s s' (sym (spot_second s) ∙ ap second_letter w ∙ spot_second s'))
+by_letters (Polyline s) Dominance w e = absurd (omega (arith, e))
+by_letters Dominance Visibility w e = absurd (omega (arith, e))
+by_letters Dominance Tessellation w e = absurd (omega (arith, e))
+by_letters Dominance (Polyline s) w e = absurd (omega (arith, e))
+by_letters Dominance Dominance w e = refl
 
 same_form : (words : List (List ℕ)) (f f' : DrawForm) → AreForm words f → AreForm words f' → f ≡ f'
 same_form words f f' h k =
@@ -272,17 +282,18 @@ test_one g st (Ok a) (Err s) h k = absurd k
 test_one g st (Err r) y h k = absurd h
 
 -- ---- the drawing
-same_picture : (form : DrawForm) (g : Embedded) (s t outer : ℕ) (x : SidesValue) → IsSidesOf g s t outer x → IsSides x → (N : Names) (d d' : Drawing) → IsPictureOf form g x N d → IsPictureOf form g x N d' → d ≡ d'
-same_picture Visibility g s t outer x of is N d d' h k = (pictures_law x is).one_visibility one_each N d d' h k
-same_picture Tessellation g s t outer x of is N d d' h k = (pictures_law x is).one_tessellation one_each N d d' h k
-same_picture (Polyline spot) g s t outer x of is N d d' h k = one_polyline g s t outer x of is spot N d d' h k
+same_picture : (form : DrawForm) (st : StValue) (x : SidesValue) → IsPlanarSt st.map.graph st.source st.sink st.outer → IsSidesOf st.map.graph st.source st.sink st.outer x → IsSides x → (N : Names) (d d' : Drawing) → IsPictureOf form st x N d → IsPictureOf form st x N d' → d ≡ d'
+same_picture Visibility st x planar of is N d d' h k = (pictures_law x is).one_visibility one_each N d d' h k
+same_picture Tessellation st x planar of is N d d' h k = (pictures_law x is).one_tessellation one_each N d d' h k
+same_picture (Polyline spot) st x planar of is N d d' h k = one_polyline st.map.graph st.source st.sink st.outer x of is spot N d d' h k
+same_picture Dominance st x planar of is N d d' h k = one_dominance st x planar of is N d d' h k
 
 same_drawing : (form : DrawForm) (g : InputGraph) (st : StValue) → IsPlanarSt st.map.graph st.source st.sink st.outer → (a b : List ℕ) → Draws form g st a → Draws form g st b → a ≡ b
 same_drawing form g st planar a b h k =
     let one : h.sides ≡ k.sides = one_value_law st.map.graph st.source st.sink st.outer h.sides k.sides planar h.are.sides h.are.sizes k.are.sides k.are.sizes in
     let here : IsSides h.sides = meaning_law st.map.graph st.source st.sink st.outer h.sides planar h.are.sides in
-    let moved : IsPictureOf form st.map.graph h.sides (file_names g) k.picture = subst (λ (z : SidesValue). IsPictureOf form st.map.graph z (file_names g) k.picture) (sym one) k.is in
-    h.told ∙ ap text (same_picture form st.map.graph st.source st.sink st.outer h.sides h.are.sides here (file_names g) h.picture k.picture h.is moved) ∙ sym k.told
+    let moved : IsPictureOf form st h.sides (file_names g) k.picture = subst (λ (z : SidesValue). IsPictureOf form st z (file_names g) k.picture) (sym one) k.is in
+    h.told ∙ ap text (same_picture form st h.sides planar h.are.sides here (file_names g) h.picture k.picture h.is moved) ∙ sym k.told
 
 draw_one : (form : DrawForm) (g : InputGraph) (st : StValue) → IsPlanarSt st.map.graph st.source st.sink st.outer → IsOne (AnswersDraw form g st)
 draw_one form g st planar (Ok a) (Ok b) h k = ok a b (same_drawing form g st planar a b h k)

@@ -7,7 +7,8 @@
 --   place_of spot lo hi        the column of a dot between the ends of a bar
 --   AnswersRows, AnswersPlaces what closures have to answer for these weights and columns
 --   IsPlacedPolyline           the polyline picture with these weights and columns
---   IsPictureOf form g x N d   d is the picture of the form
+--   IsReducedPicture st x N d  the dominance picture, by the reduced graph
+--   IsPictureOf form st x N d  d is the picture of the form
 --   Draws form g st out        out is the EPS text of that picture, which keeps the rules of pictures
 --   IsRightPicture form x d    clean, rising and in order, or for a tessellation: its boxes tile the frame in order
 --   ShowsFile form g st out    out is the EPS text of a right picture, in the orders of the file
@@ -25,6 +26,9 @@ use Rattle.st_picture.specs.Drawn.{IsDrawn}
 use Rattle.st_ids.specs.declared.ids.EdgeId.{EdgeId}
 use Rattle.st_number.specs.Parallel.{HasParallel}
 use Rattle.draw_poly.specs.Placing.{AreEnds}
+use Rattle.st_shape.specs.declared.point.Point.{Point}
+use Rattle.draw_dom.specs.Shown.{IsDominanceOf}
+use Rattle.draw_dom.specs.Pictures.{ShowsReaching}
 use Rattle.draw_poly.specs.Polyline.{IsPolylines}
 use Rattle.draw_vis.specs.Visibility.{IsVisibility}
 use Rattle.draw_vis.specs.Tessellation.{IsTessellation}
@@ -32,7 +36,7 @@ use Rattle.draw_vis.specs.Rows.{IsTessellated}
 use Rattle.eps_core.specs.Text.{text}
 use Rattle.st_input.specs.InputGraph.{InputGraph}
 use Rattle.stdraw_core.specs.declared.words.DrawForm.{DrawForm}
-use Rattle.stdraw_core.specs.declared.words.DrawForm.TheVariants.{Visibility, Tessellation, Polyline}
+use Rattle.stdraw_core.specs.declared.words.DrawForm.TheVariants.{Visibility, Tessellation, Polyline, Dominance}
 use Rattle.stdraw_core.specs.declared.words.Spot.{Spot}
 use Rattle.stdraw_core.specs.declared.words.Spot.TheVariants.{Left, Middle, Right}
 
@@ -77,27 +81,34 @@ pub record IsPlacedPolyline (spot : Spot) (g : Embedded) (x : SidesValue) (N : N
   pub picture : IsPolylines x weight column N d
   pub placed : (v : ℕ) → v < x.vertices → column v ≡ place_of spot (picture.c (left_of x v)) (picture.c (right_of x v) - 1)
 
+-- The dominance picture, with the points of the vertices in the reduced graph.
+pub record IsReducedPicture (st : StValue) (x : SidesValue) (N : Names) (d : Drawing) : Type 0 where
+  pub points : List Point
+  pub is : IsDominanceOf st.map.graph st.source st.sink st.outer x N d points
+
 -- the picture of the form
-abbrev pub IsPictureOf : DrawForm → Embedded → SidesValue → Names → Drawing → Type 0
-IsPictureOf Visibility g x N d = IsVisibility x one_each N d
-IsPictureOf Tessellation g x N d = IsTessellation x one_each N d
-IsPictureOf (Polyline spot) g x N d = IsPlacedPolyline spot g x N d
+abbrev pub IsPictureOf : DrawForm → StValue → SidesValue → Names → Drawing → Type 0
+IsPictureOf Visibility st x N d = IsVisibility x one_each N d
+IsPictureOf Tessellation st x N d = IsTessellation x one_each N d
+IsPictureOf (Polyline spot) st x N d = IsPlacedPolyline spot st.map.graph x N d
+IsPictureOf Dominance st x N d = IsReducedPicture st x N d
 
 -- the EPS text of that picture
 pub record Draws (form : DrawForm) (g : InputGraph) (st : StValue) (out : List ℕ) : Type 0 where
   pub sides : SidesValue
   pub are : AreSidesIn st sides
   pub picture : Drawing
-  pub is : IsPictureOf form st.map.graph sides (file_names g) picture
+  pub is : IsPictureOf form st sides (file_names g) picture
   pub rules : IsPicture picture
   pub told : out ≡ text picture
 
 -- nothing is wrong with the picture: it is clean, its lines rise, and it shows the order at each vertex; or its boxes tile the
--- frame and show the order
+-- frame and show the order; and in the dominance form one vertex reaches another exactly where its point is at most the other's
 abbrev pub IsRightPicture : DrawForm → SidesValue → Drawing → Type 0
 IsRightPicture Visibility x d = IsDrawn x d
 IsRightPicture Tessellation x d = IsTessellated x d
 IsRightPicture (Polyline spot) x d = IsDrawn x d
+IsRightPicture Dominance x d = IsDrawn x d × ShowsReaching x d
 
 -- The output is the text of a picture in which nothing is wrong. The orders that it shows are those of the file, each read on
 -- from one of its places.

@@ -9,7 +9,7 @@ use Rattle.std.specs.Str.Parse.{IsNumeral, signed_digits_value, without_leading_
 use Rattle.stdraw_core.specs.declared.words.Command.{Command}
 use Rattle.stdraw_core.specs.declared.words.Command.TheVariants.{Query, Test, Draw}
 use Rattle.stdraw_core.specs.declared.words.DrawForm.{DrawForm}
-use Rattle.stdraw_core.specs.declared.words.DrawForm.TheVariants.{Visibility, Tessellation, Polyline}
+use Rattle.stdraw_core.specs.declared.words.DrawForm.TheVariants.{Visibility, Tessellation, Polyline, Dominance}
 use Rattle.stdraw_core.specs.declared.words.Spot.{Spot}
 use Rattle.stdraw_core.specs.declared.words.Spot.TheVariants.{Left, Middle, Right}
 
@@ -40,6 +40,7 @@ abbrev pub form_words : DrawForm → List (List ℕ)
 form_words Visibility = codes "visibility" ∷ []
 form_words Tessellation = codes "tessellation" ∷ []
 form_words (Polyline spot) = codes "polyline" ∷ spot_word spot ∷ []
+form_words Dominance = codes "dominance" ∷ []
 
 -- the words name the form
 abbrev pub AreForm : List (List ℕ) → DrawForm → Type 0

@@ -9,13 +9,14 @@ ghost use Rattle.st_sides.specs.Sides.{edge_count};
 ghost use Rattle.st_sides.specs.SidesOf.{IsSidesOf};
 ghost use Rattle.st_input.specs.InputGraph.{IsConsistent};
 ghost use Rattle.stdraw_core.specs.Answer.{AnswersDraw, vertex_limit, edge_limit};
-ghost use Rattle.stdraw_core.specs.Drawing.{AnswersPlaces, AnswersRows, IsPictureOf, IsPlacedPolyline, place_of};
+ghost use Rattle.stdraw_core.specs.Drawing.{AnswersPlaces, AnswersRows, IsPictureOf, IsReducedPicture, IsPlacedPolyline, place_of};
 ghost use Rattle.stdraw_core.specs.Stops.{Gives};
 ghost use Rattle.stdraw_core.specs.Verdict.{IsFound};
 
 use crate::output::Output;
 use crate::stop::Stop;
 use crate::words::{DrawForm, Spot};
+use draw_dom::dominance;
 use draw_poly::{Placer, polyline};
 use draw_vis::{tessellation, visibility};
 use st_ids::{EdgeId, IdVec, Names, NoMemory};
@@ -120,28 +121,46 @@ fn polyline_of(
     flagged_polyline(alloc, spot, graph, sides, names, &flags)
 }
 
+// The dominance picture.
+fn dominance_of(
+    alloc: Global,
+    graph: StGraph,
+    sides: &Sides,
+    names: &Names,
+) -> Result<Picture, NoMemory>
+    requires sides { IsSidesOf graph.map.graph graph.source graph.sink graph.outer sides.now }
+    requires names { AreNames sides.now names.now }
+    requires high { sides.now.vertices ≤ vertex_limit }
+    requires wide { edge_count sides.now ≤ edge_limit }
+    ensures { IfOk result (IsReducedPicture graph sides.now names.now) }
+{
+    let drawn = dominance(alloc, graph, sides, names)?;
+    Ok(drawn.picture)
+}
+
 // The picture of the form. In the forms of bars each edge weighs 1.
 fn picture_of<F: Fn(EdgeId) -> u32>(
     alloc: Global,
     form: DrawForm,
-    graph: &StGraph,
+    graph: StGraph,
     sides: &Sides,
     ones: &Weights<F>,
     names: &Names,
 ) -> Result<Picture, NoMemory>
-    requires sides { IsSidesOf graph.now.map.graph graph.now.source graph.now.sink graph.now.outer sides.now }
+    requires sides { IsSidesOf graph.map.graph graph.source graph.sink graph.outer sides.now }
     requires names { AreNames sides.now names.now }
     requires weights { ones.now.edges ≡ edge_count sides.now }
     requires lawful { IsLawful F.pre F.post ones.now }
     requires ones { ones.now.most ≡ 1 }
     requires high { sides.now.vertices ≤ vertex_limit }
     requires wide { edge_count sides.now ≤ edge_limit }
-    ensures { IfOk result (IsPictureOf form graph.now.map.graph sides.now names.now) }
+    ensures { IfOk result (IsPictureOf form graph sides.now names.now) }
 {
     match form {
-        DrawForm::Visibility => visibility(alloc, graph, sides, ones, names),
-        DrawForm::Tessellation => tessellation(alloc, graph, sides, ones, names),
-        DrawForm::Polyline(spot) => polyline_of(alloc, spot, graph, sides, names),
+        DrawForm::Visibility => visibility(alloc, &graph, sides, ones, names),
+        DrawForm::Tessellation => tessellation(alloc, &graph, sides, ones, names),
+        DrawForm::Polyline(spot) => polyline_of(alloc, spot, &graph, sides, names),
+        DrawForm::Dominance => dominance_of(alloc, graph, sides, names),
     }
 }
 
@@ -153,15 +172,15 @@ pub fn answer_draw(
     alloc: Global,
     form: DrawForm,
     spec: &GraphSpec,
-    graph: &StGraph,
+    graph: StGraph,
 ) -> Result<Output, Stop>
     requires tables { IsConsistent spec.now }
-    requires found { IsFound spec.now graph.now }
+    requires found { IsFound spec.now graph }
     requires high { spec.now.graph.vertices ≤ vertex_limit }
     requires wide { length spec.now.graph.ends ≤ edge_limit }
-    ensures { Gives (AnswersDraw form spec.now graph.now) result }
+    ensures { Gives (AnswersDraw form spec.now graph) result }
 {
-    let sides = match Sides::of(alloc, graph) {
+    let sides = match Sides::of(alloc, &graph) {
         Ok(sides) => sides,
         Err(NoMemory) => return Err(Stop::NoMemory),
     };

@@ -301,7 +301,7 @@ struct Drawn {
     lines: &'static str,
 }
 
-const DRAWN: [Drawn; 6] = [
+const DRAWN: [Drawn; 7] = [
     Drawn {
         words: "draw visibility",
         file: EDGE,
@@ -337,6 +337,12 @@ const DRAWN: [Drawn; 6] = [
         file: PAIR,
         title: "%%BoundingBox: 0 0 96 120\n%%Title: polyline\n",
         lines: "%v 1\nnewpath 60 36 4 0 360 arc fill\n%v 2\nnewpath 60 84 4 0 360 arc fill\n%e 0 1 2\nnewpath 60 36 moveto 36 60 lineto 60 84 lineto stroke\n%e 1 1 2\nnewpath 60 36 moveto 60 60 lineto 60 84 lineto stroke\n%%EOF\n",
+    },
+    Drawn {
+        words: "draw dominance",
+        file: CHORDS,
+        title: "%%BoundingBox: 0 0 96 120\n%%Title: dominance\n",
+        lines: "%v 1\nnewpath 36 36 4 0 360 arc fill\n%v 2\nnewpath 36 60 4 0 360 arc fill\n%v 3\nnewpath 60 60 4 0 360 arc fill\n%v 4\nnewpath 60 84 4 0 360 arc fill\n%e 0 1 2\nnewpath 36 36 moveto 36 60 lineto stroke\n%e 1 2 4\nnewpath 36 60 moveto 36 84 lineto 60 84 lineto stroke\n%e 2 2 3\nnewpath 36 60 moveto 60 60 lineto stroke\n%e 3 1 3\nnewpath 36 36 moveto 60 36 lineto 60 60 lineto stroke\n%e 4 3 4\nnewpath 60 60 moveto 60 84 lineto stroke\n%%EOF\n",
     },
 ];
 

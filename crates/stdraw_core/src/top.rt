@@ -42,17 +42,17 @@ fn answer_command(
     alloc: Global,
     command: &Command,
     spec: &GraphSpec,
-    graph: &StGraph,
+    graph: StGraph,
 ) -> Result<Output, Stop>
     requires tables { IsConsistent spec.now }
-    requires found { IsFound spec.now graph.now }
+    requires found { IsFound spec.now graph }
     requires high { spec.now.graph.vertices ≤ vertex_limit }
     requires wide { length spec.now.graph.ends ≤ edge_limit }
-    ensures { Gives (Answers command.now spec.now graph.now) result }
+    ensures { Gives (Answers command.now spec.now graph) result }
 {
     match command {
         Command::Query(pairs) => as_output(answer_query(alloc, spec, pairs.items())),
-        Command::Test => as_output(answer_test(alloc, spec, graph)),
+        Command::Test => as_output(answer_test(alloc, spec, &graph)),
         Command::Draw(form) => answer_draw(alloc, *form, spec, graph),
     }
 }
@@ -68,7 +68,7 @@ fn answer_graph(alloc: Global, command: &Command, spec: &GraphSpec) -> Result<Ou
         Ok(graph) => graph,
         Err(stop) => return Err(stop),
     };
-    answer_command(alloc, command, spec, &graph)
+    answer_command(alloc, command, spec, graph)
 }
 
 // What the command answers to the bytes of a file.

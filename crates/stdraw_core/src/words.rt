@@ -70,6 +70,8 @@ pub enum DrawForm {
     Tessellation,
     /// Dots for vertices, lines with two bends at most for edges.
     Polyline(Spot),
+    /// Dots whose points tell reaching, straight lines for edges.
+    Dominance,
 }
 
 /// What the words of a command line ask for.
@@ -136,6 +138,9 @@ fn simple_form(word: &String) -> Option<DrawForm>
     }
     if word.as_str() == "tessellation" {
         return Some(DrawForm::Tessellation);
+    }
+    if word.as_str() == "dominance" {
+        return Some(DrawForm::Dominance);
     }
     None
 }
