@@ -70,14 +70,14 @@ report() {
 
 for n in 5000 10000 20000; do
     ears "$n" >"$work/graph.gml"
-    for form in visibility tessellation "polyline middle"; do
+    for form in visibility tessellation "polyline middle" dominance; do
         # A form may be two words.
         # shellcheck disable=SC2086
         report "ears" "$work/graph.gml" $form
     done
 done
 strip >"$work/graph.gml"
-for form in visibility tessellation "polyline middle"; do
+for form in visibility tessellation "polyline middle" dominance; do
     # shellcheck disable=SC2086
     report "strip" "$work/graph.gml" $form
 done
