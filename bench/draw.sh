@@ -38,21 +38,6 @@ ears() {
         }'
 }
 
-strip() {
-    awk '
-        function edge(from, to) { print "edge [ source " from " target " to " ]" }
-        BEGIN {
-            n = 20000
-            print "graph ["
-            for (v = 1; v <= n; v++) print "node [ id " v " ]"
-            for (v = n - 3; v >= 1; v -= 2) edge(v, v + 2)
-            for (v = n - 1; v >= 1; v--) { edge(v, v + 1); edge(v, v + 1) }
-            for (k = 0; k < 4; k++) edge(1, 2)
-            for (v = n - 2; v >= 2; v -= 2) edge(v, v + 2)
-            print "]"
-        }'
-}
-
 report() {
     name=$1
     file=$2
@@ -76,7 +61,7 @@ for n in 5000 10000 20000; do
         report "ears" "$work/graph.gml" $form
     done
 done
-strip >"$work/graph.gml"
+sh "$here/strip.sh" >"$work/graph.gml"
 for form in visibility tessellation "polyline middle" dominance; do
     # shellcheck disable=SC2086
     report "strip" "$work/graph.gml" $form
