@@ -1,5 +1,4 @@
 pub mod RootLemmas
-pub mod BoundLemmas
 pub mod ArcLemmas
 pub mod SplitLemmas
 pub mod DecideLemmas

@@ -16,7 +16,7 @@ use Rattle.st_test.specs.Poles.{IsOnlySource, IsOnlySink}
 use Rattle.st_sides.proofs.FaceRuns.{perm_st, phi-twin}
 use Rattle.st_reduce.specs.Reduced.{KeepsPlanar, SplitLaw}
 use Rattle.st_reduce.proofs.RootLemmas.{roots, Projects, fewer}
-use Rattle.st_reduce.proofs.BoundLemmas.{bound}
+use Rattle.st_sides.proofs.BoundLemmas.{euler_bound_law}
 use Rattle.st_reduce.proofs.ArcLemmas.{SplitsArc, SplitKeeps, split_keeps}
 
 faces_are : (g : Embedded) → faces g ≡ roots (darts g) (phi g)
@@ -267,7 +267,7 @@ module _ (g h : Embedded) (s t outer e : ℕ) (st : IsPlanarSt g s t outer) (I :
       let fg : faces g ≡ roots (darts g) (phi g) = faces_are g in
       let fh : faces h ≡ roots (suc (suc (darts g))) (phi h) = faces_are h ∙ ap (λ n. roots n (phi h)) darts_h in
       let eg : g.vertices + faces g ≡ edges g + 2 = st.euler in
-      let b : h.vertices + faces h ≤ edges h + 2 = bound h s t (record { ends_in = ends; no_cycle = no_cycle; source = source; sink = sink; orders = I.orders }) in
+      let b : h.vertices + faces h ≤ edges h + 2 = euler_bound_law h s t (record { ends_in = ends; no_cycle = no_cycle; source = source; sink = sink; orders = I.orders }) in
       let v : h.vertices ≡ suc g.vertices = I.vertices in
       let c : edges h ≡ suc (edges g) = I.count in
       let lo : outer < darts g = st.outer_in in

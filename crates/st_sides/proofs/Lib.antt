@@ -1,4 +1,5 @@
 pub mod BesideLemmas
+pub mod BoundLemmas
 pub mod BoundaryLemmas
 pub mod CornerLemmas
 pub mod DualLemmas

@@ -5,14 +5,18 @@
 --   CornersLaw             every planar st-graph has such corners
 --   SidesLaw               there are sides as defined
 --   LocalLaw               all sides as defined fit together at each vertex and each face
-use Rattle.std.specs.Prelude.{ℕ, ◌≡◌, ◌≢◌, ◌-◌, ◌<◌, true, false, List}
+--   IsOrderedSt g s t      a planar st-graph but for Euler's formula and the outer face
+--   EulerBoundLaw          such a graph has no more faces than Euler's formula says
+use Rattle.std.specs.Prelude.{ℕ, ◌≡◌, ◌≢◌, ◌+◌, ◌-◌, ◌<◌, ◌≤◌, true, false, List}
 use Rattle.st_map.specs.Orbits.{iterate, SameOrbit}
 use Rattle.st_sides.specs.Runs.{TwoRuns}
 use Rattle.st_ids.specs.Ends.{is_out}
-use Rattle.st_map.specs.Embedded.{Embedded, darts, at, next, phi}
-use Rattle.st_sides.specs.GraphWalks.{IsWalk}
+use Rattle.st_ids.specs.Graph.{HasEnds}
+use Rattle.st_map.specs.Embedded.{Embedded, HasOrders, bare, edges, darts, at, next, phi, faces}
+use Rattle.st_sides.specs.GraphWalks.{IsWalk, HasNoCycle}
 use Rattle.st_sides.specs.Stretches.{forward, backward}
 use Rattle.st_test.specs.Planar.{IsPlanarSt}
+use Rattle.st_test.specs.Poles.{IsOnlySource, IsOnlySink}
 use Rattle.st_sides.specs.Conditions.{AreSides}
 use Rattle.st_sides.specs.LocalSides.{AtVertices, AtFaces}
 
@@ -62,3 +66,15 @@ LocalLaw = (g : Embedded) (s t outer : ℕ) → IsPlanarSt g s t outer
     → (outs ins : ℕ → List ℕ) (low high : ℕ → ℕ) (left_path right_path : ℕ → List ℕ)
     → AreSides g s t outer outs ins low high left_path right_path
     → AtVertices g s t outer outs ins low high × AtFaces g outer outs ins low high left_path right_path
+
+-- no cycle, one source, one sink and lawful lists: all of a planar st-graph but Euler's formula and the outer face
+pub record IsOrderedSt (g : Embedded) (s t : ℕ) : Type 0 where
+  pub ends_in : HasEnds (bare g)
+  pub no_cycle : HasNoCycle g
+  pub source : IsOnlySource (bare g) s
+  pub sink : IsOnlySink (bare g) t
+  pub orders : HasOrders g
+
+-- such a graph has no more faces than Euler's formula says, and fewer where it isn't planar
+abbrev pub EulerBoundLaw : Type 0
+EulerBoundLaw = (g : Embedded) (s t : ℕ) → IsOrderedSt g s t → g.vertices + faces g ≤ edges g + 2

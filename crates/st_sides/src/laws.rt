@@ -1,7 +1,7 @@
 //! Laws of planar st-graphs: empty functions, whose contracts are theorems about the definitions of specs/.
 ghost use Rattle.st_sides.specs.Example.{two_edges};
 ghost use Rattle.st_sides.specs.Held.{OneValueLaw};
-ghost use Rattle.st_sides.specs.Laws.{CornersLaw, LocalLaw, SidesLaw};
+ghost use Rattle.st_sides.specs.Laws.{CornersLaw, EulerBoundLaw, LocalLaw, SidesLaw};
 ghost use Rattle.st_sides.specs.Normal.{NormalLaw};
 ghost use Rattle.st_sides.specs.Rotation.{OrderLaw};
 ghost use Rattle.st_sides.specs.SidesOf.{ExistLaw, MeaningLaw, OwnLaw, SweptLaw, TrichotomyLaw};
@@ -37,6 +37,12 @@ pub fn sides_exist()
 /// the right path by the leftmost ones.
 pub fn sides_fit()
     ensures { LocalLaw }
+{}
+
+/// A graph without a cycle, with one source, one sink and lawful lists, has at most E - V + 2 faces. So only the other half
+/// of Euler's formula, that there are enough faces, is left to show of such a graph.
+pub fn euler_bound()
+    ensures { EulerBoundLaw }
 {}
 
 /// Let each clockwise list begin with the leftmost edge out, and the first edge out of the source name the outer face.

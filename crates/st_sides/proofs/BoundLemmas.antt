@@ -1,14 +1,13 @@
--- In each embedded graph without a cycle, with one source and one sink, V + F is at most E + 2.
+-- In each embedded graph without a cycle, with one source and one sink, V + F is at most E + 2: each face turns up and
+-- turns down, each inner vertex has a corner from in to out and one from out to in, and there are 2 E corners.
 use Rattle.std.proofs.Common.{◌≡◌, ◌≢◌, ℕ, ◌+◌, ◌*◌, ◌<◌, ◌≤◌, Bool, true, false, not, eqb, refl, sym, ap, ◌∙◌, inl, inr, arith}
 use Rattle.std.proofs.lemmas.Bool.{eqb-true, eqb-false, and_from, and_parts, not-true, not-false}
 use Rattle.st_map.specs.Counting.{count_below}
 use Rattle.st_map.specs.Orbits.{Permutes, SameOrbit, least_within}
 use Rattle.st_sides.specs.Corners.{turns_up, turns_down, goes_up, goes_down, is_inner}
 use Rattle.st_ids.specs.Ends.{is_out, twin}
-use Rattle.st_ids.specs.Graph.{HasEnds}
-use Rattle.st_map.specs.Embedded.{Embedded, HasOrders, bare, edges, darts, tail, head, at, next, phi, face, faces}
-use Rattle.st_test.specs.Poles.{IsOnlySource, IsOnlySink}
-use Rattle.st_sides.specs.GraphWalks.{HasNoCycle}
+use Rattle.st_map.specs.Embedded.{Embedded, edges, darts, tail, head, at, next, phi, face, faces}
+use Rattle.st_sides.specs.Laws.{IsOrderedSt, EulerBoundLaw}
 use Rattle.st_map.proofs.SumLemmas.{cover}
 use Rattle.st_map.proofs.OrbitLemmas.{orbit-trans, orbit-sym, orbit-stays, root-same, root-below, change_between, some_or_none}
 use Rattle.st_map.proofs.EndLemmas.{at_below, is_out-tail, is_out-head, at-tail, at-head, twin-twin, is_out-twin, twin-below}
@@ -16,18 +15,11 @@ use Rattle.st_map.proofs.RotationLemmas.{at-next, next-permutes, phi-permutes, s
 use Rattle.st_sides.proofs.CornerLemmas.{all_corners, inner_many}
 use Rattle.st_sides.proofs.FaceRuns.{has_out, has_in, phi-twin}
 
-pub record IsSt (g : Embedded) (s t : ℕ) : Type 0 where
-  pub ends_in : HasEnds (bare g)
-  pub no_cycle : HasNoCycle g
-  pub source : IsOnlySource (bare g) s
-  pub sink : IsOnlySink (bare g) t
-  pub orders : HasOrders g
-
-module _ (g : Embedded) (s t : ℕ) (st : IsSt g s t) where
+module _ (g : Embedded) (s t : ℕ) (st : IsOrderedSt g s t) where
   at_st : (d : ℕ) → d < darts g → at g d < g.vertices
   at_st = at_below g st.ends_in
 
-  pub perm : Permutes (darts g) (phi g)
+  perm : Permutes (darts g) (phi g)
   perm = phi-permutes g st.orders at_st
 
   end_in : (v : ℕ) → v < g.vertices → v ≢ s → (d : ℕ) × (d < darts g) × (at g d ≡ v) × (is_out d ≡ false)
@@ -116,7 +108,7 @@ module _ (g : Embedded) (s t : ℕ) (st : IsSt g s t) where
   unfolding faces face is_root
   faces_are = refl
 
-  pub bound : g.vertices + faces g ≤ edges g + 2
+  bound : g.vertices + faces g ≤ edges g + 2
   bound =
       let a : count_below (darts g) is_root ≤ count_below (darts g) (turns_up (phi g) is_out) = cover (darts g) (darts g) (turns_up (phi g) is_out) root is_root root_lt turn_up in
       let b : count_below (darts g) is_root ≤ count_below (darts g) (turns_down (phi g) is_out) = cover (darts g) (darts g) (turns_down (phi g) is_out) root is_root root_lt turn_down in
@@ -125,3 +117,6 @@ module _ (g : Embedded) (s t : ℕ) (st : IsSt g s t) where
       let i : g.vertices ≤ count_below g.vertices (is_inner s t) + 2 = inner_many g.vertices s t st.source.there st.sink.there in
       let f : faces g ≡ count_below (darts g) is_root = faces_are in
       omega (arith, all_corners (darts g) (phi g) is_out)
+
+pub euler_bound_law : EulerBoundLaw
+euler_bound_law = bound
