@@ -3,7 +3,8 @@
 --   Rose            the count rose, or can rise no further: only then may a fault be answered
 --   GoesOn          the count did not fall
 --   counter n       a count of 64 bits that stands at n and stays at its greatest number
-use Rattle.std.specs.Prelude.{ℕ, ◌-◌, ◌^◌, ◌<◌, ◌≤◌, ◌⊎◌, ◌==◌, Bool, IsTrue}
+--   no_fault        the count of what never fails: it never rises
+use Rattle.std.specs.Prelude.{ℕ, ◌-◌, ◌^◌, ◌<◌, ◌≤◌, ◌⊎◌, ◌==◌, Bool, false, IsTrue}
 
 pub record Faults : Type 0 where
   pub count : ℕ
@@ -22,3 +23,7 @@ pub record GoesOn (before now : Faults) : Type 0 where
 -- a counter of 64 bits
 abbrev pub counter : ℕ → Faults
 counter n = record { count = n; is_full = n == 2 ^ 64 - 1 }
+
+-- there is no fault, and there can always be one more
+abbrev pub no_fault : Faults
+no_fault = record { count = 0; is_full = false }

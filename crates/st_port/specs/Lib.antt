@@ -3,3 +3,4 @@ pub mod Streams
 pub mod Memory
 pub mod Reading
 pub mod Edge
+pub mod Sure

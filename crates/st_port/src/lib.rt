@@ -8,9 +8,11 @@
 mod edge;
 mod memory;
 mod port;
+mod sure;
 mod whole;
 
 pub use edge::{StdSink, StdSource};
 pub use memory::{MemSink, MemSource};
 pub use port::{Failed, ReadEnd, Sink, Source};
+pub use sure::{CountSink, SureSource};
 pub use whole::{read_all, write_all};

@@ -81,8 +81,8 @@ fn portion(per_call: usize, most: usize, left: usize) -> usize
     }
 }
 
-// Copies the first n bytes.
-fn give(from: &[u8], n: usize, buf: &mut [u8])
+/// Copies the first n bytes.
+pub fn give(from: &[u8], n: usize, buf: &mut [u8])
     requires from { n ≤ length from.now }
     requires room { n ≤ length buf.old }
     ensures { take n buf.new ≡ take n from.now }
