@@ -1,9 +1,9 @@
 -- How stages of the answer follow one another in the code.
 use Rattle.std.proofs.Common.{refl}
 use Rattle.std.specs.Prelude.{Result, Ok, Err}
-use Rattle.stdraw_core.specs.declared.stop.Refusal.{Refusal}
-use Rattle.stdraw_core.specs.declared.stop.Stop.{Stop}
-use Rattle.stdraw_core.specs.declared.stop.Stop.TheVariants.{Refused, ReadFault, WriteFault, NoMemory}
+use Rattle.st_report.specs.declared.stop.Refusal.{Refusal}
+use Rattle.st_report.specs.declared.stop.Stop.{Stop}
+use Rattle.st_report.specs.declared.stop.Stop.TheVariants.{Refused, ReadFault, WriteFault, NoMemory}
 use Rattle.stdraw_core.specs.Stages.{Then, refuses, goes_on}
 use Rattle.stdraw_core.specs.Stops.{IsStop, Gives}
 

@@ -12,7 +12,7 @@ use Rattle.st_sides.specs.Sides.{SidesValue, edge_count}
 use Rattle.st_sides.specs.SidesOf.{IsSidesOf}
 use Rattle.st_picture.specs.Naming.{AreNames, IsLabelText, vertex_name, label_text}
 use Rattle.st_input.specs.InputGraph.{InputGraph, IsConsistent, IsLabel, IsShown}
-use Rattle.stdraw_core.specs.declared.stop.Refusal.{Refusal}
+use Rattle.st_report.specs.declared.stop.Refusal.{Refusal}
 use Rattle.stdraw_core.specs.Stages.{refuses, goes_on}
 use Rattle.stdraw_core.specs.Verdict.{IsAccepted, IsFound}
 use Rattle.st_ids.specs.declared.ids.EdgeId.{EdgeId}
@@ -26,7 +26,7 @@ use Rattle.draw_poly.specs.Polyline.{IsPolylines, IsPolylineBy}
 use Rattle.st_sides.specs.Sides.{IsSides, left_of, right_of}
 use Rattle.st_sides.proofs.ReaderLemmas.{right_within}
 use Rattle.st_number.proofs.BoundLemmas.{bounds_law}
-use Rattle.stdraw_core.specs.declared.words.Spot.{Spot}
+use Rattle.st_words.specs.declared.words.Spot.{Spot}
 use Rattle.draw_vis.specs.Visibility.{IsVisibility, IsVisibilityBy}
 use Rattle.draw_vis.specs.Tessellation.{IsTessellation, IsTessellationBy}
 use Rattle.stdraw_core.specs.Drawing.{file_names, one_each, place_of, AnswersRows, AnswersPlaces, IsPlacedPolyline}

@@ -22,20 +22,20 @@ use Rattle.draw_vis.proofs.TileLemmas.{tessellation_drawn}
 use Rattle.draw_poly.proofs.NumberLemmas.{polyline_drawn}
 use Rattle.stdraw_core.proofs.PolylineLemmas.{long}
 use Rattle.stdraw_core.proofs.DominanceLemmas.{right_dominance}
-use Rattle.stdraw_core.specs.declared.words.Command.{Command}
-use Rattle.stdraw_core.specs.declared.words.Command.TheVariants.{Draw}
-use Rattle.stdraw_core.specs.declared.words.DrawForm.{DrawForm}
-use Rattle.stdraw_core.specs.declared.words.DrawForm.TheVariants.{Visibility, Tessellation, Polyline, Dominance}
-use Rattle.stdraw_core.specs.declared.stop.Refusal.{Refusal}
-use Rattle.stdraw_core.specs.declared.stop.Status.{Status}
-use Rattle.stdraw_core.specs.declared.stop.Status.TheVariants as status
+use Rattle.st_words.specs.declared.words.Command.{Command}
+use Rattle.st_words.specs.declared.words.Command.TheVariants.{Draw}
+use Rattle.st_words.specs.declared.words.DrawForm.{DrawForm}
+use Rattle.st_words.specs.declared.words.DrawForm.TheVariants.{Visibility, Tessellation, Polyline, Dominance}
+use Rattle.st_report.specs.declared.stop.Refusal.{Refusal}
+use Rattle.st_report.specs.declared.stop.Status.{Status}
+use Rattle.st_report.specs.declared.stop.Status.TheVariants as status
 use Rattle.stdraw_core.specs.Answer.{Asks, IsFew, IsTree, IsGraph, Answers, AnswersGraph, AnswersFile, IsAnswer}
 use Rattle.stdraw_core.specs.Drawing.{one_each, file_names, IsPictureOf, IsRightPicture, Draws, ShowsFile}
 use Rattle.stdraw_core.specs.Headline.{IsPlanarFile, IsDrawnFile, HeadlineFor, Headline}
 use Rattle.stdraw_core.specs.Run.{IsRefused, IsTold, IsDone, EndsBy}
 use Rattle.stdraw_core.specs.Stages.{Then, refuses, goes_on, IsOne}
 use Rattle.stdraw_core.specs.Verdict.{IsAccepted}
-use Rattle.stdraw_core.specs.Words.{IsCommand}
+use Rattle.st_words.specs.Words.{IsCommand}
 use Rattle.stdraw_core.proofs.DrawingLemmas.{found, names_meet}
 use Rattle.stdraw_core.proofs.OneAnswer.{asks_one, few_one, tree_one, graph_one}
 use Rattle.stdraw_core.proofs.VerdictOne.{accepted_one}

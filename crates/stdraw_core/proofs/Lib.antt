@@ -1,6 +1,5 @@
 pub mod LinkLemmas
 pub mod SearchLemmas
-pub mod WordLemmas
 pub mod VerdictLemmas
 pub mod DrawingLemmas
 pub mod PolylineLemmas
@@ -12,4 +11,3 @@ pub mod RunLemmas
 pub mod HeadlineLemmas
 pub mod AnswerLemmas
 pub mod QueryLemmas
-pub mod LineLemmas

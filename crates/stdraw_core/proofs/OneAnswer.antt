@@ -6,16 +6,16 @@ use Rattle.gml_core.proofs.Unique.{one_tree, one_first, not_both}
 use Rattle.st_input.specs.InputGraph.{InputGraph}
 use Rattle.st_test.specs.Planar.{IsPlanarSt, StValue}
 use Rattle.st_test.specs.PolesAnswer.{OnePolesAnswer}
-use Rattle.stdraw_core.specs.declared.words.Command.{Command}
-use Rattle.stdraw_core.specs.declared.words.Command.TheVariants.{Query, Test, Draw}
-use Rattle.stdraw_core.specs.declared.words.DrawForm.{DrawForm}
-use Rattle.stdraw_core.specs.declared.words.DrawForm.TheVariants.{Visibility, Tessellation, Polyline, Dominance}
-use Rattle.stdraw_core.specs.declared.words.Spot.{Spot}
-use Rattle.stdraw_core.specs.declared.words.Spot.TheVariants.{Left, Middle, Right}
-use Rattle.stdraw_core.specs.declared.stop.Refusal.{Refusal}
-use Rattle.stdraw_core.specs.declared.stop.Refusal.TheVariants.{Words, TooManyBytes, Gml, Shape, NotSt, UnknownVertex}
+use Rattle.st_words.specs.declared.words.Command.{Command}
+use Rattle.st_words.specs.declared.words.Command.TheVariants.{Query, Test, Draw}
+use Rattle.st_words.specs.declared.words.DrawForm.{DrawForm}
+use Rattle.st_words.specs.declared.words.DrawForm.TheVariants.{Visibility, Tessellation, Polyline, Dominance}
+use Rattle.st_words.specs.declared.words.Spot.{Spot}
+use Rattle.st_words.specs.declared.words.Spot.TheVariants.{Left, Middle, Right}
+use Rattle.st_report.specs.declared.stop.Refusal.{Refusal}
+use Rattle.st_report.specs.declared.stop.Refusal.TheVariants.{Words, TooManyBytes, Gml, Shape, NotSt, UnknownVertex}
 use Rattle.stdraw_core.specs.Stages.{IsOne}
-use Rattle.stdraw_core.specs.Words.{IsName, AreNames, form_words, AreForm, IsCommand}
+use Rattle.st_words.specs.Words.{IsName, AreNames, form_words, AreForm, IsCommand}
 use Rattle.stdraw_core.specs.Query.{names_of, AreKnown, IsFirstUnknown, IsLine, line_of_names, AreLines, no_line, one_line}
 use Rattle.stdraw_core.specs.Verdict.{IsAccepted}
 use Rattle.stdraw_core.specs.Answer.{Asks, IsFew, IsTree, IsGraph, AnswersQuery, AnswersTest, AnswersDraw, Answers, AnswersGraph, AnswersFile, HaveOneAnswer, byte_limit}

@@ -13,7 +13,7 @@ use Rattle.draw_poly.specs.Numbers.{AreLong, AreNumbers}
 use Rattle.draw_poly.specs.Polyline.{IsPolylines}
 use Rattle.draw_poly.proofs.NumberLemmas.{same_columns}
 use Rattle.draw_poly.proofs.SameLemmas.{one_placed}
-use Rattle.stdraw_core.specs.declared.words.Spot.{Spot}
+use Rattle.st_words.specs.declared.words.Spot.{Spot}
 use Rattle.stdraw_core.specs.Drawing.{AreRows, place_of, IsPlacedPolyline}
 use Rattle.stdraw_core.proofs.DrawingLemmas.{same_greatest}
 

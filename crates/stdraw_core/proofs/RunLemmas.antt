@@ -7,21 +7,22 @@ use Rattle.st_port.specs.Streams.{SourceState, SinkState}
 use Rattle.st_port.specs.Reading.{ReadsWhole}
 use Rattle.st_port.specs.declared.port.ReadEnd.TheVariants.{TooLong}
 use Rattle.st_input.specs.declared.fault.ShapeFault.TheVariants as shape
-use Rattle.stdraw_core.specs.declared.words.Command.{Command}
-use Rattle.stdraw_core.specs.declared.words.Command.TheVariants.{Query, Test, Draw}
-use Rattle.stdraw_core.specs.declared.stop.Refusal.{Refusal}
-use Rattle.stdraw_core.specs.declared.stop.Refusal.TheVariants.{Words, TooManyBytes, Gml, Shape, NotSt, UnknownVertex}
-use Rattle.stdraw_core.specs.declared.stop.Stop.{Stop}
-use Rattle.stdraw_core.specs.declared.stop.Stop.TheVariants.{Refused, ReadFault, WriteFault, NoMemory}
+use Rattle.st_words.specs.declared.words.Command.{Command}
+use Rattle.st_words.specs.declared.words.Command.TheVariants.{Query, Test, Draw}
+use Rattle.st_report.specs.declared.stop.Refusal.{Refusal}
+use Rattle.st_report.specs.declared.stop.Refusal.TheVariants.{Words, TooManyBytes, Gml, Shape, NotSt, UnknownVertex}
+use Rattle.st_report.specs.declared.stop.Stop.{Stop}
+use Rattle.st_report.specs.declared.stop.Stop.TheVariants.{Refused, ReadFault, WriteFault, NoMemory}
 use Rattle.stdraw_core.specs.Stages.{Then, refuses, goes_on}
 use Rattle.stdraw_core.specs.Stops.{Gives}
-use Rattle.stdraw_core.specs.Words.{IsCommand}
+use Rattle.st_words.specs.Words.{IsCommand}
 use Rattle.stdraw_core.specs.Answer.{IsFew, IsTree, IsGraph, Answers, AnswersGraph, AnswersFile, byte_limit}
 use Rattle.st_input.specs.InputGraph.{InputGraph}
 use Rattle.st_test.specs.Planar.{StValue}
 use Rattle.stdraw_core.specs.Verdict.{HasPoles, HasMap, IsPlanar, IsAccepted}
-use Rattle.stdraw_core.specs.Lines.{stop_line, stop_status}
-use Rattle.stdraw_core.specs.Run.{Leaves, IsRefused, Decides, Tells, IsTold, EndsBy}
+use Rattle.st_report.specs.Lines.{stop_line, stop_status}
+use Rattle.st_report.specs.Telling.{Tells}
+use Rattle.stdraw_core.specs.Run.{Leaves, IsRefused, Decides, IsTold, EndsBy}
 
 -- ---- what was read
 -- the bytes that are answered, where these were taken

@@ -1,7 +1,7 @@
 -- One stage after another has at most one answer where each stage has. What every proof about one stage needs.
 use Rattle.std.proofs.Common.{◌≡◌, ◌↔◌, Bool, true, false, IsTrue, refl, sym, ap, ◌∙◌, subst}
 use Rattle.std.specs.Prelude.{Result, Ok, Err}
-use Rattle.stdraw_core.specs.declared.stop.Refusal.{Refusal}
+use Rattle.st_report.specs.declared.stop.Refusal.{Refusal}
 use Rattle.stdraw_core.specs.Stages.{Then, refuses, goes_on, IsOne}
 
 -- equal values are equal answers

@@ -14,8 +14,8 @@ use Rattle.st_map.specs.Orders.{HasEdges}
 use Rattle.st_test.specs.Cycle.{IsLoop}
 use Rattle.st_test.specs.Planar.{StValue, outer_of}
 use Rattle.st_input.specs.InputGraph.{InputGraph, AreListed}
-use Rattle.stdraw_core.specs.declared.stop.Refusal.{Refusal}
-use Rattle.stdraw_core.specs.declared.stop.Stop.{Stop}
+use Rattle.st_report.specs.declared.stop.Refusal.{Refusal}
+use Rattle.st_report.specs.declared.stop.Stop.{Stop}
 use Rattle.stdraw_core.specs.Stages.{refuses, goes_on}
 use Rattle.stdraw_core.specs.Stops.{StopsAt, Gives}
 use Rattle.stdraw_core.specs.Verdict.{IsAccepted, outer_in}

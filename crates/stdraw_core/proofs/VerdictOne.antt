@@ -17,10 +17,10 @@ use Rattle.st_test.specs.declared.digraph_fault.DigraphFault.TheVariants as digr
 use Rattle.st_test.specs.declared.verdict.EmbedFault.{EmbedFault}
 use Rattle.st_test.specs.declared.verdict.EmbedFault.TheVariants as embedding
 use Rattle.st_input.specs.InputGraph.{InputGraph}
-use Rattle.stdraw_core.specs.declared.stop.NotSt.{NotSt}
-use Rattle.stdraw_core.specs.declared.stop.NotSt.TheVariants.{BadOrder, BadFaces, Outer}
-use Rattle.stdraw_core.specs.declared.stop.Refusal.{Refusal}
-use Rattle.stdraw_core.specs.declared.stop.Refusal.TheVariants as refusal
+use Rattle.st_report.specs.declared.stop.NotSt.{NotSt}
+use Rattle.st_report.specs.declared.stop.NotSt.TheVariants.{BadOrder, BadFaces, Outer}
+use Rattle.st_report.specs.declared.stop.Refusal.{Refusal}
+use Rattle.st_report.specs.declared.stop.Refusal.TheVariants as refusal
 use Rattle.stdraw_core.specs.Stages.{Then, IsOne}
 use Rattle.stdraw_core.specs.Verdict.{TellsDigraph, TellsEmbedding, HasPoles, HasMap, IsPlanar, IsAccepted, outer_in, vertex_name}
 use Rattle.stdraw_core.proofs.StageLemmas.{ok, err, one_then, same_bool}

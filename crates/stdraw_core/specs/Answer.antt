@@ -8,16 +8,16 @@ use Rattle.gml_core.specs.Reading.{IsText, IsFirstFault}
 use Rattle.st_input.specs.InputGraph.{InputGraph}
 use Rattle.st_input.specs.Embedding.{embedded_graph}
 use Rattle.st_input.specs.FirstFault.{shape_fault}
-use Rattle.stdraw_core.specs.declared.words.Command.{Command}
-use Rattle.stdraw_core.specs.declared.words.Command.TheVariants.{Query, Test, Draw}
-use Rattle.stdraw_core.specs.declared.words.DrawForm.{DrawForm}
-use Rattle.stdraw_core.specs.declared.stop.Refusal.{Refusal}
-use Rattle.stdraw_core.specs.declared.stop.Refusal.TheVariants.{Words, TooManyBytes, Gml, Shape, UnknownVertex}
+use Rattle.st_words.specs.declared.words.Command.{Command}
+use Rattle.st_words.specs.declared.words.Command.TheVariants.{Query, Test, Draw}
+use Rattle.st_words.specs.declared.words.DrawForm.{DrawForm}
+use Rattle.st_report.specs.declared.stop.Refusal.{Refusal}
+use Rattle.st_report.specs.declared.stop.Refusal.TheVariants.{Words, TooManyBytes, Gml, Shape, UnknownVertex}
 use Rattle.stdraw_core.specs.Stages.{Then, IsOne}
-use Rattle.stdraw_core.specs.Words.{IsCommand}
+use Rattle.st_words.specs.Words.{IsCommand}
 use Rattle.st_map.specs.Embedded.{edges, faces}
 use Rattle.st_test.specs.Planar.{StValue}
-use Rattle.stdraw_core.specs.Lines.{numbered}
+use Rattle.st_report.specs.Lines.{numbered}
 use Rattle.stdraw_core.specs.Verdict.{IsAccepted, vertex_name}
 use Rattle.stdraw_core.specs.Drawing.{Draws}
 use Rattle.stdraw_core.specs.Query.{AreKnown, IsFirstUnknown, AreLines, names_of}

@@ -35,10 +35,10 @@ use Rattle.draw_vis.specs.Tessellation.{IsTessellation}
 use Rattle.draw_vis.specs.Rows.{IsTessellated}
 use Rattle.eps_core.specs.Text.{text}
 use Rattle.st_input.specs.InputGraph.{InputGraph}
-use Rattle.stdraw_core.specs.declared.words.DrawForm.{DrawForm}
-use Rattle.stdraw_core.specs.declared.words.DrawForm.TheVariants.{Visibility, Tessellation, Polyline, Dominance}
-use Rattle.stdraw_core.specs.declared.words.Spot.{Spot}
-use Rattle.stdraw_core.specs.declared.words.Spot.TheVariants.{Left, Middle, Right}
+use Rattle.st_words.specs.declared.words.DrawForm.{DrawForm}
+use Rattle.st_words.specs.declared.words.DrawForm.TheVariants.{Visibility, Tessellation, Polyline, Dominance}
+use Rattle.st_words.specs.declared.words.Spot.{Spot}
+use Rattle.st_words.specs.declared.words.Spot.TheVariants.{Left, Middle, Right}
 
 -- each edge weighs 1
 abbrev pub one_each : ℕ → ℕ

@@ -11,14 +11,14 @@ use Rattle.st_input.specs.InputGraph.{InputGraph}
 use Rattle.st_port.specs.Faults.{Rose}
 use Rattle.st_port.specs.Streams.{SourceState, SinkState, Gains}
 use Rattle.st_test.specs.Planar.{StValue}
-use Rattle.stdraw_core.specs.declared.words.Command.TheVariants.{Draw}
-use Rattle.stdraw_core.specs.declared.words.DrawForm.{DrawForm}
-use Rattle.stdraw_core.specs.declared.stop.Status.{Status}
-use Rattle.stdraw_core.specs.declared.stop.Status.TheVariants as status
+use Rattle.st_words.specs.declared.words.Command.TheVariants.{Draw}
+use Rattle.st_words.specs.declared.words.DrawForm.{DrawForm}
+use Rattle.st_report.specs.declared.stop.Status.{Status}
+use Rattle.st_report.specs.declared.stop.Status.TheVariants as status
 use Rattle.stdraw_core.specs.Answer.{IsGraph, byte_limit}
 use Rattle.stdraw_core.specs.Drawing.{ShowsFile}
 use Rattle.stdraw_core.specs.Verdict.{IsAccepted}
-use Rattle.stdraw_core.specs.Words.{IsCommand}
+use Rattle.st_words.specs.Words.{IsCommand}
 
 -- the bytes are the text of a tree that has a graph within the limits, and this is a planar st-graph
 pub record IsPlanarFile (bytes : List ℕ) (g : InputGraph) (st : StValue) : Type 0 where

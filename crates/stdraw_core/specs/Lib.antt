@@ -1,12 +1,10 @@
 pub mod Links
 pub mod Search
 pub mod Stages
-pub mod Words
 pub mod Query
 pub mod Drawing
 pub mod Verdict
 pub mod Answer
-pub mod Lines
 pub mod Outputs
 pub mod Stops
 pub mod Run

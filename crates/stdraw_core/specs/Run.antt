@@ -1,6 +1,5 @@
 -- How a run ends, for any source and sinks: by its status.
 --   IsReady, IsRefused     the answer to the bytes is an output, or a refusal, and what was read for it
---   Tells                  the diagnostic line was written and flushed, or a front of it where a fault was counted
 --   EndsBy                 what each status says
 -- The bytes are those that the source had left, where it tells them.
 use Rattle.std.specs.Prelude.{◌≡◌, ℕ, ◌+◌, ◌<◌, ◌≤◌, ◌⊎◌, List, length, IfSome, IsTrue, Result, Ok, Err}
@@ -8,16 +7,17 @@ use Rattle.std.specs.declared.option.Option.{Option}
 use Rattle.std.specs.Io.KnownBytes.{Consumes, IsAtEnd}
 use Rattle.st_port.specs.Faults.{Rose}
 use Rattle.st_port.specs.Streams.{SourceState, SinkState, Gains, GainsFront}
-use Rattle.stdraw_core.specs.declared.words.Command.{Command}
-use Rattle.stdraw_core.specs.declared.stop.Status.{Status}
-use Rattle.stdraw_core.specs.declared.stop.Status.TheVariants as status
-use Rattle.stdraw_core.specs.declared.stop.Refusal.{Refusal}
-use Rattle.stdraw_core.specs.declared.stop.Refusal.TheVariants.{Words, TooManyBytes}
-use Rattle.stdraw_core.specs.declared.stop.Stop.{Stop}
-use Rattle.stdraw_core.specs.declared.stop.Stop.TheVariants.{Refused, ReadFault, WriteFault, NoMemory}
-use Rattle.stdraw_core.specs.Words.{IsCommand}
+use Rattle.st_words.specs.declared.words.Command.{Command}
+use Rattle.st_report.specs.declared.stop.Status.{Status}
+use Rattle.st_report.specs.declared.stop.Status.TheVariants as status
+use Rattle.st_report.specs.declared.stop.Refusal.{Refusal}
+use Rattle.st_report.specs.declared.stop.Refusal.TheVariants.{Words, TooManyBytes}
+use Rattle.st_report.specs.declared.stop.Stop.{Stop}
+use Rattle.st_report.specs.declared.stop.Stop.TheVariants.{Refused, ReadFault, WriteFault, NoMemory}
+use Rattle.st_words.specs.Words.{IsCommand}
 use Rattle.stdraw_core.specs.Answer.{IsAnswer, byte_limit}
-use Rattle.stdraw_core.specs.Lines.{status_of, line_of, stop_line}
+use Rattle.st_report.specs.Telling.{Tells}
+use Rattle.st_report.specs.Lines.{status_of, line_of, stop_line}
 
 -- more bytes than the limit were taken, by less than one read
 pub record TakesPastLimit (old new : Option (List ℕ)) : Type 0 where
@@ -59,10 +59,6 @@ Decides words old new (Err (Refused refusal)) = IsRefused words old new refusal
 Decides words old new (Err ReadFault) = IsUnread words old new
 Decides words old new (Err WriteFault) = ⊥
 Decides words old new (Err NoMemory) = Unit {0}
-
--- the line was written and flushed, or a front of it where a fault was counted
-abbrev pub Tells : SinkState → SinkState → List ℕ → Type 0
-Tells old new line = (Gains old new line × IsTrue new.is_flushed) ⊎ (GainsFront old new line × Rose old.faults new.faults)
 
 -- the output was written whole and flushed
 pub record IsDone (words : List (List ℕ)) (src src' : SourceState) (out out' : SinkState) : Type 0 where

@@ -2,9 +2,9 @@
 --   StopsAt stage result    where the call stops, it is with a refusal of the stage, or memory ran out
 --   Gives stage result      the same, and else what it gives is what the stage finds
 use Rattle.std.specs.Prelude.{Result, Ok, Err}
-use Rattle.stdraw_core.specs.declared.stop.Refusal.{Refusal}
-use Rattle.stdraw_core.specs.declared.stop.Stop.{Stop}
-use Rattle.stdraw_core.specs.declared.stop.Stop.TheVariants.{Refused, ReadFault, WriteFault, NoMemory}
+use Rattle.st_report.specs.declared.stop.Refusal.{Refusal}
+use Rattle.st_report.specs.declared.stop.Stop.{Stop}
+use Rattle.st_report.specs.declared.stop.Stop.TheVariants.{Refused, ReadFault, WriteFault, NoMemory}
 
 -- the stop is a refusal of the stage, or memory ran out
 abbrev pub IsStop : {A : Type 0} → (Result A Refusal → Type 0) → Stop → Type 0

@@ -14,17 +14,17 @@ ghost use Rattle.stdraw_core.specs.Stops.{Gives};
 ghost use Rattle.stdraw_core.specs.Verdict.{IsFound};
 
 use crate::output::Output;
-use crate::stop::Stop;
-use crate::words::{DrawForm, Spot};
 use draw_dom::dominance;
 use draw_poly::{Placer, polyline};
 use draw_vis::{tessellation, visibility};
 use st_ids::{EdgeId, IdVec, Names, NoMemory};
 use st_input::GraphSpec;
 use st_number::{Weights, parallel};
+use st_report::Stop;
 use st_shape::Picture;
 use st_sides::{Sides, laws};
 use st_test::StGraph;
+use st_words::{DrawForm, Spot};
 use std::alloc::Global;
 
 // How many rows the edge takes at least: two where it has a parallel, and else one.

@@ -6,10 +6,10 @@ ghost use Rattle.st_input.specs.InputGraph.{IsConsistent};
 ghost use Rattle.stdraw_core.specs.Answer.{IsTree, IsGraph, vertex_limit, edge_limit};
 ghost use Rattle.stdraw_core.specs.Stops.{StopsAt};
 
-use crate::stop::{Refusal, Stop};
 use gml_core::{GmlFault, Tree, parse};
 use st_input::laws::limits_hold;
 use st_input::{GraphSpec, ShapeFault, read_graph};
+use st_report::{Refusal, Stop};
 use std::alloc::Global;
 
 const MOST_VERTICES: u32 = 20_000;

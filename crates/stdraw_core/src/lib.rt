@@ -11,16 +11,13 @@ mod links;
 mod output;
 mod query;
 mod reach;
-mod report;
-mod stop;
 mod tested;
 mod top;
 mod verdict;
-mod words;
 
-pub use stop::{NameList, NotSt, Refusal, Status, Stop};
+pub use st_report::{NameList, NotSt, Refusal, Status, Stop};
+pub use st_words::{Command, DrawForm, Pairs, Spot};
 pub use top::run;
-pub use words::{Command, DrawForm, Pairs, Spot};
 
 #[cfg(test)]
 mod tests;

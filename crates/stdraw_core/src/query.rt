@@ -10,10 +10,10 @@ ghost use Rattle.stdraw_core.specs.Stops.{Gives};
 
 use crate::links::link_edges;
 use crate::reach::reaches;
-use crate::stop::{Refusal, Stop};
 use itoa::Buffer;
 use st_ids::{NoMemory, Text};
 use st_input::GraphSpec;
+use st_report::{Refusal, Stop};
 use std::alloc::Global;
 
 // Appends the line of a pair.

@@ -3,10 +3,10 @@ ghost use Rattle.std.specs.Prelude.{◌≡◌, ◌++◌, ◌<◌, length, OnOk};
 ghost use Rattle.stdraw_core.specs.Answer.{AnswersTest, test_line};
 ghost use Rattle.stdraw_core.specs.Stops.{Gives};
 
-use crate::stop::Stop;
 use itoa::{Buffer, Integer};
 use st_ids::{NoMemory, Text};
 use st_input::GraphSpec;
+use st_report::Stop;
 use st_test::StGraph;
 use std::alloc::Global;
 

@@ -13,16 +13,15 @@ use crate::drawing::answer_draw;
 use crate::file::{graph_of, tree_of};
 use crate::output::Output;
 use crate::query::answer_query;
-use crate::report::report;
-use crate::stop::{Refusal, Status, Stop};
 use crate::tested::answer_test;
 use crate::verdict::accept;
-use crate::words::{Command, command_of};
 use st_ids::{NoMemory, Text};
 use st_input::GraphSpec;
 use st_port::{Failed, ReadEnd, Sink, Source, read_all};
+use st_report::{Refusal, Status, Stop, report};
 use st_test::StGraph;
 use st_test::laws::one_poles_answer;
+use st_words::{Command, command_of};
 use std::alloc::Global;
 
 const MOST_BYTES: usize = 16_777_216;

@@ -6,10 +6,10 @@ ghost use Rattle.st_test.specs.PolesAnswer.{IsFirstFault};
 ghost use Rattle.stdraw_core.specs.Verdict.{HasPoles, HasMap, IsPlanar, IsAccepted, vertex_name, edge_name};
 ghost use Rattle.stdraw_core.specs.Stops.{IsStop, StopsAt, Gives};
 
-use crate::stop::{NameList, NotSt, Refusal, Stop};
 use st_ids::{EdgeId, NoMemory, VertexId};
 use st_input::GraphSpec;
 use st_map::{Map, MapFault};
+use st_report::{NameList, NotSt, Refusal, Stop};
 use st_test::laws::no_loop;
 use st_test::{DigraphFault, EmbedFault, Poles, StGraph, poles, test};
 use std::alloc::Global;

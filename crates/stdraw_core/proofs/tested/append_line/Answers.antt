@@ -3,9 +3,9 @@ use Rattle.std.proofs.lemmas.Int.{to_z-of_z}
 use Rattle.std.proofs.lemmas.Option.{get_or_from_slice_get}
 use Rattle.std.proofs.lemmas.Result.{on_ok_weaker}
 use Rattle.st_map.specs.Embedded.{edges, faces}
-use Rattle.stdraw_core.specs.Lines.{numbered}
+use Rattle.st_report.specs.Lines.{numbered}
 use Rattle.stdraw_core.specs.Verdict.{vertex_name}
-use Rattle.stdraw_core.proofs.LineLemmas.{six_pieces}
+use Rattle.st_report.proofs.LineLemmas.{six_pieces}
 use Rattle.stdraw_core.proofs.tested.append_line.Goals as goal
 
 pub returns : goal.returns

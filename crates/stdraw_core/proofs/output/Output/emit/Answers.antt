@@ -1,5 +1,5 @@
 use Rattle.st_port.proofs.PieceLemmas.{on_err}
-use Rattle.stdraw_core.proofs.LineLemmas.{GainsFront-whole}
+use Rattle.st_report.proofs.LineLemmas.{GainsFront-whole}
 use Rattle.stdraw_core.proofs.output.Output.emit.Goals as goal
 
 pub returns-clause-prefix : goal.returns-clause-prefix

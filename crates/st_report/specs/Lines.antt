@@ -1,0 +1,138 @@
+-- How a run ends: the status of each refusal, the numbers of the statuses, and the lines that say why.
+--   status_of, code_of    the status of a refusal; its number
+--   line_of               the line of a refusal; stop_line that of any end but Done
+--   numbered              a text, a number in decimal, a text
+--   spaced, names_line    a space and the name, for each of the names; these and the end of the line
+use Rattle.std.specs.Prelude.{ℕ, ℤ, pos, Bool, true, false, List, [], ◌∷◌, codes, ◌++◌}
+use Rattle.std.specs.Fmt.{signed_decimal}
+use Rattle.gml_core.specs.declared.fault.GmlFault.{GmlFault}
+use Rattle.gml_core.specs.declared.fault.GmlFault.TheVariants as gml
+use Rattle.st_input.specs.declared.fault.ShapeFault.{ShapeFault}
+use Rattle.st_input.specs.declared.fault.ShapeFault.TheVariants as shape
+use Rattle.st_report.specs.declared.stop.Status.{Status}
+use Rattle.st_report.specs.declared.stop.Status.TheVariants as status
+use Rattle.st_report.specs.declared.stop.NotSt.TheVariants as not_st
+use Rattle.st_report.specs.declared.stop.NotSt.{NotSt as Why}
+use Rattle.st_report.specs.declared.stop.Refusal.{Refusal}
+use Rattle.st_report.specs.declared.stop.Refusal.TheVariants.{Words, TooManyBytes, Gml, Shape, NotSt, UnknownVertex}
+use Rattle.st_report.specs.declared.stop.Stop.{Stop}
+use Rattle.st_report.specs.declared.stop.Stop.TheVariants as stop
+
+-- the number that the program ends with
+abbrev pub code_of : Status → ℕ
+code_of status.Done = 0
+code_of status.NotSt = 1
+code_of status.Words = 2
+code_of status.Gml = 3
+code_of status.Limit = 4
+code_of status.ReadFault = 5
+code_of status.WriteFault = 6
+code_of status.NoMemory = 7
+code_of status.Path = 8
+code_of status.UnknownVertex = 9
+code_of status.NotClean = 10
+code_of status.Eps = 11
+code_of status.Edit = 12
+code_of status.NoOrientation = 13
+
+-- a tree with a fault has the status of bad GML, but for the limits
+abbrev pub shape_status : ShapeFault → Status
+shape_status (shape.TooManyVertices n) = status.Limit
+shape_status (shape.TooManyEdges m) = status.Limit
+shape_status _ = status.Gml
+
+abbrev pub status_of : Refusal → Status
+status_of Words = status.Words
+status_of TooManyBytes = status.Limit
+status_of (Gml fault) = status.Gml
+status_of (Shape fault) = shape_status fault
+status_of (NotSt why) = status.NotSt
+status_of (UnknownVertex name) = status.UnknownVertex
+
+abbrev pub stop_status : Stop → Status
+stop_status (stop.Refused refusal) = status_of refusal
+stop_status stop.ReadFault = status.ReadFault
+stop_status stop.WriteFault = status.WriteFault
+stop_status stop.NoMemory = status.NoMemory
+
+-- a text, a number in decimal, a text
+abbrev pub numbered : List ℕ → ℤ → List ℕ → List ℕ
+numbered head n tail = head ++ (signed_decimal n ++ tail)
+
+abbrev pub placed : List ℕ → ℕ → List ℕ
+placed head at = numbered head (pos at) (codes "\n")
+
+abbrev pub gml_line : GmlFault → List ℕ
+gml_line (gml.BadByte at) = placed (codes "gml: bad byte at ") at
+gml_line (gml.OpenString at) = placed (codes "gml: open string at ") at
+gml_line (gml.BadNumber at) = placed (codes "gml: bad number at ") at
+gml_line (gml.BigNumber at) = placed (codes "gml: big number at ") at
+gml_line (gml.NoValue at) = placed (codes "gml: key without value at ") at
+gml_line (gml.Unclosed at) = placed (codes "gml: unclosed list at ") at
+gml_line (gml.Stray at) = placed (codes "gml: stray token at ") at
+gml_line (gml.TooDeep at) = placed (codes "gml: list too deep at ") at
+gml_line gml.NoMemory = codes "no memory\n"
+
+abbrev pub shape_line : ShapeFault → List ℕ
+shape_line shape.NoGraph = codes "gml: no graph\n"
+shape_line (shape.SecondGraph at) = placed (codes "gml: second graph at ") at
+shape_line (shape.BadKind at) = placed (codes "gml: wrong kind of value at ") at
+shape_line (shape.NoId at) = placed (codes "gml: node without id at ") at
+shape_line (shape.SameId id) = numbered (codes "gml: node id ") id (codes " twice\n")
+shape_line (shape.NoEnd edge) = numbered (codes "gml: edge ") (pos edge) (codes " lacks an end\n")
+shape_line (shape.UnknownEnd edge id) = numbered (codes "gml: edge ") (pos edge) (codes " ends at unknown node ") ++ numbered [] id (codes "\n")
+shape_line (shape.SameEdgeId id) = numbered (codes "gml: edge id ") id (codes " twice\n")
+shape_line (shape.UnknownEdge at) = placed (codes "gml: unknown edge at ") at
+shape_line (shape.BadOuter at) = placed (codes "gml: bad outer at ") at
+shape_line (shape.TooManyVertices n) = numbered (codes "limit: ") (pos n) (codes " vertices, at most 20000\n")
+shape_line (shape.TooManyEdges m) = numbered (codes "limit: ") (pos m) (codes " edges, at most 60000\n")
+shape_line shape.NoMemory = codes "no memory\n"
+
+-- a space and the name, for each of the names
+abbrev pub spaced : List ℤ → List ℕ
+spaced [] = []
+spaced (n ∷ names) = numbered (codes " ") n [] ++ spaced names
+
+-- the names, each behind a space, and the end of the line
+abbrev pub names_line : List ℤ → List ℕ
+names_line names = spaced names ++ codes "\n"
+
+abbrev pub cycle_line : List ℤ → List ℕ
+cycle_line names = codes "not st: cycle:" ++ names_line names
+
+-- how many, and the first two
+abbrev pub several_line : ℕ → List ℕ → ℤ → ℤ → List ℕ
+several_line count head first second = numbered (codes "not st: ") (pos count) head ++ (numbered [] first (codes " and ") ++ numbered [] second (codes "\n"))
+
+-- how many vertices, edges and faces
+abbrev pub faces_line : ℕ → ℕ → ℕ → List ℕ
+faces_line v e f = numbered (codes "not st: faces: ") (pos v) (codes " vertices, ") ++ (numbered [] (pos e) (codes " edges, ") ++ numbered [] (pos f) (codes " faces\n"))
+
+-- which of the poles the outer face misses
+abbrev pub missed : Bool → Bool → List ℕ
+missed a false = codes "not st: outer face misses the source\n"
+missed false true = codes "not st: outer face misses the sink\n"
+missed true true = codes "not st: outer face misses the source and the sink\n"
+
+abbrev pub not_st_line : Why → List ℕ
+not_st_line (not_st.TooFew n) = placed (codes "not st: too few vertices: ") n
+not_st_line (not_st.Cycle names) = cycle_line names
+not_st_line (not_st.Sources first second count) = several_line count (codes " sources, the first ") first second
+not_st_line (not_st.Sinks first second count) = several_line count (codes " sinks, the first ") first second
+not_st_line (not_st.BadOrder vertex) = numbered (codes "not st: order at vertex ") vertex (codes "\n")
+not_st_line (not_st.BadFaces v e f) = faces_line v e f
+not_st_line (not_st.Outer a b) = missed a b
+
+abbrev pub line_of : Refusal → List ℕ
+line_of Words = codes "words: not a command of stdraw\n"
+line_of TooManyBytes = codes "limit: more than 16777216 bytes\n"
+line_of (Gml fault) = gml_line fault
+line_of (Shape fault) = shape_line fault
+line_of (NotSt why) = not_st_line why
+line_of (UnknownVertex name) = numbered (codes "unknown vertex: ") name (codes "\n")
+
+abbrev pub stop_line : Stop → List ℕ
+stop_line (stop.Refused refusal) = line_of refusal
+stop_line stop.ReadFault = codes "read fault\n"
+stop_line stop.WriteFault = codes "write fault\n"
+stop_line stop.NoMemory = codes "no memory\n"

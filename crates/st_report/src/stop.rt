@@ -1,0 +1,212 @@
+//! How a run ends.
+ghost use Rattle.std.specs.Prelude.{◌≡◌, [], ◌∷◌, ◌++◌, OnOk, OnErr};
+ghost use Rattle.st_report.specs.Lines.{code_of, status_of, stop_status};
+
+use gml_core::GmlFault;
+use st_ids::NoMemory;
+use st_input::ShapeFault;
+use std::alloc::Global;
+use std::marker::Model;
+
+/// How a run ended. Each status has a number, which the program ends with.
+#[derive(Clone, Copy, Debug, PartialEq, Eq)]
+pub enum Status {
+    /// The whole output was written and flushed.
+    Done,
+    /// The graph is no planar st-graph.
+    NotSt,
+    /// The words are no form of a command.
+    Words,
+    /// The file is no GML text, or its tree is no graph.
+    Gml,
+    /// The file has too many bytes, or the graph too many vertices or edges.
+    Limit,
+    /// A read failed.
+    ReadFault,
+    /// A write of the output failed.
+    WriteFault,
+    /// Memory ran out.
+    NoMemory,
+    /// The paths of the file are not valid.
+    Path,
+    /// A name in the words is the name of no vertex.
+    UnknownVertex,
+    /// A drawing is not clean.
+    NotClean,
+    /// The file is no EPS text of the dialect.
+    Eps,
+    /// An edit was refused.
+    Edit,
+    /// There is no orientation.
+    NoOrientation,
+}
+
+impl Status {
+    /// The number that the program ends with.
+    pub fn code(self) -> u8
+        ensures { result ≡ code_of self }
+    {
+        match self {
+            Status::Done => 0,
+            Status::NotSt => 1,
+            Status::Words => 2,
+            Status::Gml => 3,
+            Status::Limit => 4,
+            Status::ReadFault => 5,
+            Status::WriteFault => 6,
+            Status::NoMemory => 7,
+            Status::Path => 8,
+            Status::UnknownVertex => 9,
+            Status::NotClean => 10,
+            Status::Eps => 11,
+            Status::Edit => 12,
+            Status::NoOrientation => 13,
+        }
+    }
+}
+
+/// Names in a list, which a contract sees as such.
+#[derive(Debug, Drop)]
+pub struct NameList {
+    held: Vec<i64>,
+}
+
+impl Model for NameList {
+    ghost use Rattle.std.specs.Prelude.{List, ℤ};
+
+    ghost Value = { List ℤ };
+
+    ghost view = { λ a. a.held.items };
+}
+
+impl NameList {
+    /// No name.
+    pub fn new(alloc: Global) -> NameList
+        ensures { result ≡ [] }
+    {
+        NameList {
+            held: Vec::new(alloc),
+        }
+    }
+
+    /// Appends a name.
+    pub fn push(&mut self, name: i64) -> Result<(), NoMemory>
+        ensures ok { OnOk result (self.new ≡ self.old ++ name ∷ []) }
+        ensures err { OnErr result (self.new ≡ self.old) }
+    {
+        match self.held.push(name) {
+            Ok(()) => Ok(()),
+            Err(_) => Err(NoMemory),
+        }
+    }
+
+    /// All names.
+    pub fn items(&self) -> &[i64]
+        ensures { result.now ≡ self.now }
+    {
+        &self.held
+    }
+}
+
+/// Why a graph is no planar st-graph: the first of the seven tests that fails, with its evidence in the names of the
+/// file.
+#[derive(Debug, Drop)]
+pub enum NotSt {
+    /// There are fewer than two vertices.
+    TooFew {
+        n: u32,
+    },
+    /// There is a cycle, of these edges.
+    Cycle {
+        edges: NameList,
+    },
+    /// There are several vertices without an edge in: the first two, and how many.
+    Sources {
+        first: i64,
+        second: i64,
+        count: u32,
+    },
+    /// There are several vertices without an edge out: the first two, and how many.
+    Sinks {
+        first: i64,
+        second: i64,
+        count: u32,
+    },
+    /// The order of this vertex doesn't list each edge at it once and no other.
+    BadOrder {
+        vertex: i64,
+    },
+    /// The numbers of vertices, edges and faces are not those of a planar embedding.
+    BadFaces {
+        v: u32,
+        e: u32,
+        f: u32,
+    },
+    /// The outer face misses a pole.
+    Outer {
+        misses_source: bool,
+        misses_sink: bool,
+    },
+}
+
+/// What words and bytes answer in place of an output.
+#[derive(Debug, Drop)]
+pub enum Refusal {
+    /// The words are no form of a command.
+    Words,
+    /// The file has more bytes than the limit.
+    TooManyBytes,
+    /// The bytes are no GML text.
+    Gml(GmlFault),
+    /// The tree of the file is no graph, or one with too many vertices or edges.
+    Shape(ShapeFault),
+    /// The graph is no planar st-graph.
+    NotSt(NotSt),
+    /// The first name in the words that is the name of no vertex.
+    UnknownVertex(i64),
+}
+
+impl Refusal {
+    /// The status that the run ends with.
+    pub fn status(&self) -> Status
+        ensures { result ≡ status_of self.now }
+    {
+        match self {
+            Refusal::Words => Status::Words,
+            Refusal::TooManyBytes => Status::Limit,
+            Refusal::Gml(_) => Status::Gml,
+            Refusal::Shape(ShapeFault::TooManyVertices { .. }) => Status::Limit,
+            Refusal::Shape(ShapeFault::TooManyEdges { .. }) => Status::Limit,
+            Refusal::Shape(_) => Status::Gml,
+            Refusal::NotSt(_) => Status::NotSt,
+            Refusal::UnknownVertex(_) => Status::UnknownVertex,
+        }
+    }
+}
+
+/// Why a run is not done.
+#[derive(Debug, Drop)]
+pub enum Stop {
+    /// The answer is a refusal.
+    Refused(Refusal),
+    /// A read failed.
+    ReadFault,
+    /// A write of the output failed.
+    WriteFault,
+    /// Memory ran out.
+    NoMemory,
+}
+
+impl Stop {
+    /// The status that the run ends with.
+    pub fn status(&self) -> Status
+        ensures { result ≡ stop_status self.now }
+    {
+        match self {
+            Stop::Refused(refusal) => refusal.status(),
+            Stop::ReadFault => Status::ReadFault,
+            Stop::WriteFault => Status::WriteFault,
+            Stop::NoMemory => Status::NoMemory,
+        }
+    }
+}

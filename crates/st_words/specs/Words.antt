@@ -1,0 +1,55 @@
+-- What words ask for.
+--   IsName word n        the word writes the vertex name n
+--   AreNames words ps    the words write the names of the pairs, one after the other
+--   AreForm words f      the words name the form of drawing
+--   IsCommand words c    the words are a form of the command
+use Rattle.std.specs.Prelude.{◌≡◌, ℕ, ◌+◌, ◌*◌, ◌<◌, ◌≤◌, ℤ, pos, FitsSigned, List, [], ◌∷◌, length, slice_index_or, codes}
+use Rattle.std.specs.Int.{w64}
+use Rattle.std.specs.Str.Parse.{IsNumeral, signed_digits_value, without_leading_sign}
+use Rattle.st_words.specs.declared.words.Command.{Command}
+use Rattle.st_words.specs.declared.words.Command.TheVariants.{Query, Test, Draw}
+use Rattle.st_words.specs.declared.words.DrawForm.{DrawForm}
+use Rattle.st_words.specs.declared.words.DrawForm.TheVariants.{Visibility, Tessellation, Polyline, Dominance}
+use Rattle.st_words.specs.declared.words.Spot.{Spot}
+use Rattle.st_words.specs.declared.words.Spot.TheVariants.{Left, Middle, Right}
+
+-- an optional sign and at least one digit, of a number in signed 64 bits
+pub record IsName (word : List ℕ) (n : ℤ) : Type 0 where
+  pub digits : IsNumeral 10 (without_leading_sign word)
+  pub value : signed_digits_value 10 word ≡ n
+  pub fits : FitsSigned w64 n
+
+-- the words write the names of the pairs, one after the other
+pub record AreNames (words : List (List ℕ)) (pairs : List (ℤ × ℤ)) : Type 0 where
+  pub size : length words ≡ 2 * length pairs
+  pub first : (i : ℕ) → i < length pairs → IsName (slice_index_or words (2 * i) []) (slice_index_or pairs i (pos 0, pos 0)).0
+  pub second : (i : ℕ) → i < length pairs → IsName (slice_index_or words (2 * i + 1) []) (slice_index_or pairs i (pos 0, pos 0)).1
+
+-- the greatest number of pairs of a query
+abbrev pub most_pairs : ℕ
+most_pairs = 1000
+
+-- the word of a spot
+abbrev pub spot_word : Spot → List ℕ
+spot_word Left = codes "left"
+spot_word Middle = codes "middle"
+spot_word Right = codes "right"
+
+-- the words of a form of drawing
+abbrev pub form_words : DrawForm → List (List ℕ)
+form_words Visibility = codes "visibility" ∷ []
+form_words Tessellation = codes "tessellation" ∷ []
+form_words (Polyline spot) = codes "polyline" ∷ spot_word spot ∷ []
+form_words Dominance = codes "dominance" ∷ []
+
+-- the words name the form
+abbrev pub AreForm : List (List ℕ) → DrawForm → Type 0
+AreForm words form = words ≡ form_words form
+
+-- the words are a form of the command
+abbrev pub IsCommand : List (List ℕ) → Command → Type 0
+IsCommand [] command = ⊥
+IsCommand (name ∷ []) Test = name ≡ codes "test"
+IsCommand (name ∷ word ∷ words) Test = ⊥
+IsCommand (name ∷ words) (Draw form) = (name ≡ codes "draw") × AreForm words form
+IsCommand (name ∷ words) (Query pairs) = (name ≡ codes "query") × (1 ≤ length pairs) × (length pairs ≤ most_pairs) × AreNames words pairs

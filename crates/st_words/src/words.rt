@@ -1,0 +1,197 @@
+//! The words of a command line, and the command that they ask for.
+ghost use Rattle.std.specs.Prelude.{◌≡◌, ◌≢◌, ℤ, ◌+◌, ◌<◌, ◌≤◌, ◌^◌, ◌∷◌, ◌++◌, [], List, length, map, IfOk, OnOk, OnErr, IfSome, IfNone, MatchOption, Ok};
+ghost use Rattle.std.specs.String.{string_bytes};
+ghost use Rattle.st_words.specs.Words.{IsName, AreNames, AreForm, IsCommand, most_pairs, spot_word, form_words};
+
+use st_ids::NoMemory;
+use std::alloc::Global;
+use std::marker::Model;
+
+const MOST_PAIRS: usize = 1000;
+
+/// Pairs of vertex names, which a contract sees as a list.
+#[derive(Drop)]
+pub struct Pairs {
+    held: Vec<(i64, i64)>,
+}
+
+impl Model for Pairs {
+    ghost use Rattle.std.specs.Prelude.{List, ℤ};
+
+    ghost Value = { List (ℤ × ℤ) };
+
+    ghost view = { λ a. a.held.items };
+}
+
+impl Pairs {
+    /// No pair.
+    pub fn new(alloc: Global) -> Pairs
+        ensures { result ≡ [] }
+    {
+        Pairs {
+            held: Vec::new(alloc),
+        }
+    }
+
+    /// Appends a pair.
+    pub fn push(&mut self, from: i64, to: i64) -> Result<(), NoMemory>
+        ensures ok { OnOk result (self.new ≡ self.old ++ (from, to) ∷ []) }
+        ensures err { OnErr result (self.new ≡ self.old) }
+    {
+        match self.held.push((from, to)) {
+            Ok(()) => Ok(()),
+            Err(_) => Err(NoMemory),
+        }
+    }
+
+    /// All pairs.
+    pub fn items(&self) -> &[(i64, i64)]
+        ensures { result.now ≡ self.now }
+    {
+        &self.held
+    }
+}
+
+/// Where a vertex stands between the ends of its bar.
+#[derive(Clone, Copy)]
+pub enum Spot {
+    Left,
+    /// Half way, rounded to the left.
+    Middle,
+    Right,
+}
+
+/// How a graph is drawn.
+#[derive(Clone, Copy)]
+pub enum DrawForm {
+    /// Level bars for vertices, upright lines for edges.
+    Visibility,
+    /// Boxes for edges, which tile the frame.
+    Tessellation,
+    /// Dots for vertices, lines with two bends at most for edges.
+    Polyline(Spot),
+    /// Dots whose points tell reaching, straight lines for edges.
+    Dominance,
+}
+
+/// What the words of a command line ask for.
+#[derive(Drop)]
+pub enum Command {
+    /// Whether the first vertex of each pair reaches the second.
+    Query(Pairs),
+    /// Whether the graph is a planar st-graph.
+    Test,
+    /// A drawing of the graph.
+    Draw(DrawForm),
+}
+
+// The vertex name that a word writes.
+fn name_of(word: &String) -> Option<i64>
+    ensures some { IfSome result (λ n. IsName (string_bytes word.now) n) }
+    ensures none { IfNone result ((n : ℤ) → ¬ IsName (string_bytes word.now) n) }
+{
+    word.as_str().parse::<i64>().ok()
+}
+
+// The pairs that the words write.
+fn pairs_of(alloc: Global, words: &[String]) -> Result<Option<Pairs>, NoMemory>
+    ensures { IfOk result (λ o. MatchOption o ((pairs : List (ℤ × ℤ)) → ¬ AreNames (map string_bytes words.now) pairs) (λ pairs. AreNames (map string_bytes words.now) pairs)) }
+{
+    let mut pairs = Pairs::new(alloc);
+    if words.len() % 2 != 0 {
+        return Ok(None);
+    }
+    for i in 0..words.len() / 2 {
+        let Some(from) = name_of(&words[2 * i]) else {
+            return Ok(None);
+        };
+        let Some(to) = name_of(&words[2 * i + 1]) else {
+            return Ok(None);
+        };
+        pairs.push(from, to)?;
+    }
+    Ok(Some(pairs))
+}
+
+// The spot that a word names.
+fn spot_of(word: &String) -> Option<Spot>
+    ensures { MatchOption result ((spot : Spot) → string_bytes word.now ≢ spot_word spot) (λ spot. string_bytes word.now ≡ spot_word spot) }
+{
+    if word.as_str() == "left" {
+        return Some(Spot::Left);
+    }
+    if word.as_str() == "middle" {
+        return Some(Spot::Middle);
+    }
+    if word.as_str() == "right" {
+        return Some(Spot::Right);
+    }
+    None
+}
+
+// The form of one word that the word names.
+fn simple_form(word: &String) -> Option<DrawForm>
+    ensures { MatchOption result ((form : DrawForm) → string_bytes word.now ∷ [] ≢ form_words form) (λ form. string_bytes word.now ∷ [] ≡ form_words form) }
+{
+    if word.as_str() == "visibility" {
+        return Some(DrawForm::Visibility);
+    }
+    if word.as_str() == "tessellation" {
+        return Some(DrawForm::Tessellation);
+    }
+    if word.as_str() == "dominance" {
+        return Some(DrawForm::Dominance);
+    }
+    None
+}
+
+// The form of two words that the words name.
+fn spotted_form(name: &String, spot: &String) -> Option<DrawForm>
+    ensures { MatchOption result ((form : DrawForm) → string_bytes name.now ∷ string_bytes spot.now ∷ [] ≢ form_words form) (λ form. string_bytes name.now ∷ string_bytes spot.now ∷ [] ≡ form_words form) }
+{
+    if name.as_str() != "polyline" {
+        return None;
+    }
+    match spot_of(spot) {
+        Some(spot) => Some(DrawForm::Polyline(spot)),
+        None => None,
+    }
+}
+
+// The form of drawing that the words name.
+fn form_of(words: &[String]) -> Option<DrawForm>
+    ensures { MatchOption result ((form : DrawForm) → ¬ AreForm (map string_bytes words.now) form) (λ form. AreForm (map string_bytes words.now) form) }
+{
+    match words {
+        [word] => simple_form(word),
+        [name, spot] => spotted_form(name, spot),
+        _ => None,
+    }
+}
+
+/// The command that the words ask for; `None` where they are no form of a command.
+///
+/// Cost: one pass over the words, one list of pairs.
+pub fn command_of(alloc: Global, words: &[String]) -> Result<Option<Command>, NoMemory>
+    ensures { IfOk result (λ o. MatchOption o ((command : Command) → ¬ IsCommand (map string_bytes words.now) command) (λ command. IsCommand (map string_bytes words.now) command)) }
+{
+    let [name, names @ ..] = words else {
+        return Ok(None);
+    };
+    if name.as_str() == "test" && names.is_empty() {
+        return Ok(Some(Command::Test));
+    }
+    if name.as_str() == "draw" {
+        return match form_of(names) {
+            Some(form) => Ok(Some(Command::Draw(form))),
+            None => Ok(None),
+        };
+    }
+    if name.as_str() != "query" || names.is_empty() || names.len() > 2 * MOST_PAIRS {
+        return Ok(None);
+    }
+    match pairs_of(alloc, names)? {
+        Some(pairs) => Ok(Some(Command::Query(pairs))),
+        None => Ok(None),
+    }
+}

@@ -1,6 +1,0 @@
-use Rattle.st_port.proofs.PieceLemmas.{on_err}
-use Rattle.stdraw_core.proofs.LineLemmas.{GainsFront-whole}
-use Rattle.stdraw_core.proofs.report.tell.Goals as goal
-
-pub returns-clause-prefix : goal.returns-clause-prefix
-returns-clause-prefix g c = on_err _ (GainsFront-whole _ _ _ _ c.in_ok-write_stop.ensures.whole c.flush.ensures.same)
