@@ -1,0 +1,14 @@
+pub mod AlignedLemmas
+pub mod AlignmentLemmas
+pub mod ApartLemmas
+pub mod BuiltLemmas
+pub mod ChoiceLemmas
+pub mod ConstrainedLemmas
+pub mod CrossLemmas
+pub mod FaultLemmas
+pub mod HomeLemmas
+pub mod PictureLemmas
+pub mod SameLemmas
+pub mod SomeLemmas
+pub mod StepLemmas
+pub mod TableLemmas

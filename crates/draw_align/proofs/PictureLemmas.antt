@@ -1,0 +1,190 @@
+-- Tables of heights, columns and lines are those of the constrained picture.
+--   aligned_of        the edges of each listed path stand in one column
+--   tables_of, frame_of, picture_by   the tables that the calls give
+use Rattle.std.proofs.Common.{ℕ, List, [], ◌∷◌, ◌++◌, ◌≡◌, ◌<◌, ◌≤◌, ◌+◌, ◌-◌, ◌*◌, inl, inr, ℤ, pos, ◌≤ℤ◌, nat_abs, map, arith, refl, sym, ap, ◌∙◌, subst, length, get_or, Some}
+use Rattle.std.specs.Prelude.{slice_get}
+use Rattle.std.proofs.Math.ListN.{get_or-map}
+use Rattle.std.proofs.lemmas.Int.{ints}
+use Rattle.std.proofs.lemmas.List.{length-map}
+use Rattle.std.proofs.lemmas.Nat.{mul-le}
+use Rattle.std.proofs.lemmas.Option.{get_or_from_slice_get}
+use Rattle.st_ids.specs.declared.ids.EdgeId.{EdgeId}
+use Rattle.st_ids.specs.declared.names.Names.{Names}
+use Rattle.st_ids.specs.Lists.{In}
+use Rattle.st_map.specs.Embedded.{Embedded, edges}
+use Rattle.st_shape.specs.declared.item.Item.{Item}
+use Rattle.st_shape.specs.declared.item.Item.TheVariants.{Line}
+use Rattle.st_shape.specs.declared.picture.Form.{Form}
+use Rattle.st_shape.specs.declared.picture.Form.TheVariants.{Constrained}
+use Rattle.st_shape.specs.declared.point.Point.{Point}
+use Rattle.st_shape.specs.Rules.{Drawing}
+use Rattle.st_sides.specs.SidesOf.{IsSidesOf}
+use Rattle.st_sides.specs.Sides.{SidesValue, edge_count, edge_tail, edge_head, face_left, face_right, right_path, primal, IsSides}
+use Rattle.st_number.specs.Greatest.{IsGreatest, IsHeight}
+use Rattle.st_number.proofs.BoundLemmas.{bounds_law, to_sides}
+use Rattle.st_number.specs.Heights.{AreHeights, AreColumns}
+use Rattle.st_number.proofs.GreatestLemmas.{last_arc, poles_differ, heights_law}
+use Rattle.st_ids.proofs.WalkLemmas.{walk_from, walk_to}
+use Rattle.draw_align.specs.Crossing.{IsRanked}
+use Rattle.st_picture.specs.Bars.{number_at, bars, bar, bar_start, upright, AreTables, HasFrame, HasNaturals}
+use Rattle.st_picture.specs.Growing.{HasLines}
+use Rattle.st_picture.specs.Items.{at, each, line, labels}
+use Rattle.st_picture.specs.Naming.{vertex_name, edge_name}
+use Rattle.st_picture.proofs.PlaceLemmas.{each_same, line_is}
+use Rattle.draw_align.specs.Alignment.{path_count, path_of, node, alignment, alignment_weight}
+use Rattle.draw_align.specs.Built.{AreNodeColumns, AreLines}
+use Rattle.draw_align.specs.Constrained.{line_of, IsConstrained, IsConstrainedBy, IsAligned, ConstrainedLaw}
+use Rattle.draw_align.specs.Listed.{path_at, AreSound}
+use Rattle.draw_align.specs.Faults.{AreThere}
+use Rattle.draw_align.proofs.ConstrainedLemmas.{heights_grow, columns_grow, lines_between, constrained_drawn}
+
+abs_is : (k : ℕ) → nat_abs (pos k) ≡ k
+abs_is k = refl
+
+natural : (z : ℤ) (k : ℕ) → z ≡ pos k → pos 0 ≤ℤ z
+natural z k q = omega (arith, ints)
+
+abbrev picture_of : Form → Point → List Item → Drawing
+picture_of form frame items = record { form = form; frame = frame; items = items }
+
+bars_of_lines : (g : SidesValue) (N : Names) (form : Form) (y c k k' : ℕ → ℕ) → ((e : ℕ) → e < edge_count g → k e ≡ k' e) → bars g N form y c k ≡ bars g N form y c k'
+bars_of_lines g N form y c k k' h =
+    ap (λ z. picture_of form (at (c g.t_star - 1) (y g.sink)) (each (bar g N y c) g.vertices ++ (z ++ labels N (bar_start g y c) g.vertices)))
+    (each_same (line g N (upright g y k)) (line g N (upright g y k')) (edge_count g)
+    (λ e a. ap (λ z. Line (edge_name N e) (vertex_name N (edge_tail g e)) (vertex_name N (edge_head g e)) (at z (y (edge_tail g e)) ∷ at z (y (edge_head g e)) ∷ [])) (h e a)))
+
+-- ---- the edges of a listed path
+pub aligned_of : (g : SidesValue) (ps : List (List ℕ)) → ((p e : ℕ) → p < length ps → In e (path_at ps p) → e < edge_count g) → (w : ℕ → ℕ) (N : Names) (d : Drawing) → IsConstrained g w ps N d → IsAligned g ps d
+aligned_of g ps A w N d D p l = record {
+  column = pos (D.x (node g p));
+  stands = λ e i.
+      let home : path_of D.paths e ≡ p = D.completed.only_home p e (let s : length ps ≤ path_count D.paths = D.completed.size in omega arith) (subst (λ z. In e z) (sym (D.completed.listed p l)) i) in
+      record {
+        name = edge_name N e;
+        tail = vertex_name N (edge_tail g e);
+        head = vertex_name N (edge_head g e);
+        low = pos (D.y (edge_tail g e));
+        high = pos (D.y (edge_head g e));
+        is = subst (λ (z : Drawing). slice_get z.items (g.vertices + e) ≡ Some (Line (edge_name N e) (vertex_name N (edge_tail g e)) (vertex_name N (edge_head g e)) (at (D.x (node g p)) (D.y (edge_tail g e)) ∷ at (D.x (node g p)) (D.y (edge_head g e)) ∷ []))) (sym D.is)
+            (line_is g N Constrained (at (D.x g.t_star - 1) (D.y g.sink)) (bar g N D.y D.x) (upright g D.y (line_of g D.paths D.x)) (bar_start g D.y D.x) e (A p e l i)
+            ∙ ap (λ z. Some (Line (edge_name N e) (vertex_name N (edge_tail g e)) (vertex_name N (edge_head g e)) (at (D.x (node g z)) (D.y (edge_tail g e)) ∷ at (D.x (node g z)) (D.y (edge_head g e)) ∷ []))) home);
+      };
+}
+
+-- ---- the heights
+pub same_edges : (E : Embedded) (s t outer : ℕ) (g : SidesValue) → IsSidesOf E s t outer g → edge_count g ≡ edges E
+unfolding edge_count
+same_edges E s t outer g Q = ap length Q.ends
+
+module _ (E : Embedded) (s t outer : ℕ) (g : SidesValue) (Q : IsSidesOf E s t outer g) (S : IsSides g) (answer : EdgeId → ℕ → Type 0) (most : ℕ) (hs : List ℤ) (H : AreHeights answer E s most hs) where
+  height_is : (v : ℕ) → v < g.vertices → number_at hs v ≡ H.height v
+  unfolding number_at
+  height_is v l = ap nat_abs (get_or_from_slice_get hs v (pos (H.height v)) (pos 0) (H.at v (subst (λ z. v < z) Q.vertices l))) ∙ abs_is (H.height v)
+
+  heights_natural : HasNaturals hs g.vertices
+  heights_natural = record {
+    size = (let q : length hs ≡ E.vertices = H.size in let r : g.vertices ≡ E.vertices = Q.vertices in omega arith);
+    natural = λ v l. natural (get_or hs v (pos 0)) (H.height v) (get_or_from_slice_get hs v (pos (H.height v)) (pos 0) (H.at v (subst (λ z. v < z) Q.vertices l)));
+  }
+
+  weights : (e : ℕ) → e < edge_count g → 1 ≤ H.weight e
+  weights e a = H.from_one e (subst (λ z. e < z) (same_edges E s t outer g Q) a)
+
+  are_heights : (v : ℕ) → v < g.vertices → IsHeight g H.weight v (number_at hs v)
+  are_heights v l = subst (IsHeight g H.weight v) (sym (height_is v l)) (to_sides E s t outer g Q H.weight v (H.height v) (H.greatest v (subst (λ z. v < z) Q.vertices l)))
+
+  module _ (ps : List (List ℕ)) (sound : AreSound g ps (length ps)) (homes : List ℕ) (next : ℕ) (cs : List ℕ) (C : AreNodeColumns g ps homes next cs) (table : List ℤ) (T : table ≡ map (λ n. pos n) cs)
+      (lines : List ℤ) (L : AreLines g homes table (edge_count g) lines) where
+    column_is : (f : ℕ) → get_or table f (pos 0) ≡ pos (get_or cs f 0)
+    column_is f = ap (λ z. get_or z f (pos 0)) T ∙ get_or-map (λ n. pos n) cs f 0
+
+    number_is : (f : ℕ) → number_at table f ≡ get_or cs f 0
+    unfolding number_at
+    number_is f = ap nat_abs (column_is f) ∙ abs_is (get_or cs f 0)
+
+    line_number : (e : ℕ) → e < edge_count g → number_at lines e ≡ line_of g C.paths.paths (number_at table) e
+    unfolding number_at path_of
+    line_number e a = ap nat_abs (L.each e a) ∙ ap (λ z. nat_abs (get_or table (node g (get_or z e 0)) (pos 0))) (sym C.paths.homes_are)
+
+    columns_are : (f : ℕ) → f < g.t_star + 1 + path_count C.paths.paths → IsGreatest (alignment g C.paths.paths) (alignment_weight g) 0 f (number_at table f)
+    columns_are f l = subst (IsGreatest (alignment g C.paths.paths) (alignment_weight g) 0 f) (sym (number_is f)) (C.greatest f (subst (λ z. f < g.t_star + 1 + z) C.paths.count l))
+
+    between : HasLines g (number_at table) (line_of g C.paths.paths (number_at table))
+    between = lines_between g S ps sound C.paths.paths C.paths.completed (number_at table) columns_are
+
+    pub tables_of : AreTables g hs table lines
+    tables_of = record {
+      heights_are = heights_natural;
+      columns_are = record {
+        size = (let q : length table ≡ length cs = ap length T ∙ length-map cs (λ n. pos n) in let r : length cs ≡ g.t_star + 1 + next = C.size in omega arith);
+        natural = λ f l. natural (get_or table f (pos 0)) (get_or cs f 0) (column_is f);
+      };
+      lines_are = record {
+        size = (let q : length lines ≡ edge_count g = L.size in omega arith);
+        natural = λ e a. natural (get_or lines e (pos 0)) (get_or cs (node g (get_or homes e 0)) 0) (L.each e a ∙ column_is (node g (get_or homes e 0)));
+      };
+      up = heights_grow g S H.weight weights (number_at hs) are_heights;
+      rightward = columns_grow g S ps sound C.paths.paths C.paths.completed (number_at table) columns_are;
+      between = record {
+        after_left = λ e a. subst (λ z. number_at table (face_left g e) ≤ z) (sym (line_number e a)) (between.after_left e a);
+        before_right = λ e a. subst (λ z. z < number_at table (face_right g e)) (sym (line_number e a)) (between.before_right e a);
+      };
+    }
+
+    pub frame_of : g.vertices * most ≤ 50000000 → edge_count g ≤ 50000000 → HasFrame g hs table
+    frame_of high wide = record {
+      wide = (let a : get_or cs g.t_star 0 ≤ edge_count g = C.few g.t_star (omega arith) in let b : number_at table g.t_star ≡ get_or cs g.t_star 0 = number_is g.t_star in omega arith);
+      high =
+          let l : g.sink < g.vertices = sink_in in
+          let top : number_at hs g.sink ≤ (g.vertices - 1) * most = (bounds_law g S).heights H.weight most (λ e a. H.to_most e (subst (λ z. e < z) (same_edges E s t outer g Q) a)) g.sink (number_at hs g.sink) (are_heights g.sink l) in
+          let less : (g.vertices - 1) * most ≤ g.vertices * most = mul-le (g.vertices - 1) most g.vertices most (omega arith) (omega arith) in
+          omega arith;
+    }
+      where
+        sink_in : g.sink < g.vertices
+        sink_in = elim (last_arc (primal g) g.source g.sink (right_path g 0) (walk_from S.low_s (walk_to S.high_s (S.right_path_walk 0 S.has_t)))) [
+          | inl q ↦ absurd (poles_differ g S q)
+          | inr A ↦ subst (λ z. z < g.vertices) A.ends (S.head_in A.arc A.is_arc)
+        ]
+
+    pub picture_by : (N : Names) (d : Drawing) → d ≡ bars g N Constrained (number_at hs) (number_at table) (number_at lines) → IsConstrainedBy answer g ps N d
+    picture_by N d q = record {
+      weight = H.weight;
+      taken = λ e a. H.taken e (subst (λ z. e < z) (same_edges E s t outer g Q) a);
+      from_one = weights;
+      picture = record {
+        y = number_at hs;
+        paths = C.paths.paths;
+        x = number_at table;
+        heights = are_heights;
+        completed = C.paths.completed;
+        columns = columns_are;
+        is = q ∙ bars_of_lines g N Constrained (number_at hs) (number_at table) (number_at lines) (line_of g C.paths.paths (number_at table)) line_number;
+      };
+    }
+
+-- ---- the columns of the dual
+module _ (g : SidesValue) (S : IsSides g) (cs : List ℤ) (C : AreColumns g cs) where
+  rank_is : (f : ℕ) → f ≤ g.t_star → number_at cs f ≡ C.column f
+  unfolding number_at
+  rank_is f l = ap nat_abs (get_or_from_slice_get cs f (pos (C.column f)) (pos 0) (C.at f l)) ∙ abs_is (C.column f)
+
+  pub ranked : IsRanked g cs
+  ranked = record {
+    columns_are = record {
+      size = (let q : length cs ≡ g.t_star + 1 = C.size in omega arith);
+      natural = λ f l. natural (get_or cs f (pos 0)) (C.column f) (get_or_from_slice_get cs f (pos (C.column f)) (pos 0) (C.at f (omega arith)));
+    };
+    rightward = λ e a.
+        let l : face_left g e < g.t_star = S.left_before e a in
+        let h : C.column (face_left g e) + 1 ≤ C.column (face_right g e) = (heights_law g S).columns.grows e a (C.column (face_left g e)) (C.column (face_right g e)) (C.greatest (face_left g e) (omega arith)) (C.greatest (face_right g e) (S.right_within e a)) in
+        let x : number_at cs (face_left g e) ≡ C.column (face_left g e) = rank_is (face_left g e) (omega arith) in
+        let y : number_at cs (face_right g e) ≡ C.column (face_right g e) = rank_is (face_right g e) (S.right_within e a) in
+        omega arith;
+  }
+
+pub constrained_law : (g : SidesValue) → IsSides g → (ps : List (List ℕ)) → AreThere g ps → AreSound g ps (length ps) → ConstrainedLaw g ps
+constrained_law g S ps A sound = record {
+  drawn = λ w W N M d D. constrained_drawn g S ps sound w W N M d D;
+  aligned = λ w N d D. aligned_of g ps A w N d D;
+}

@@ -1,0 +1,9 @@
+pub mod Alignment
+pub mod Built
+pub mod Constrained
+pub mod Crossing
+pub mod Faults
+pub mod Homes
+pub mod Laws
+pub mod Listed
+pub mod Steps
