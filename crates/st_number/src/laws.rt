@@ -1,6 +1,7 @@
 //! Laws of heights and columns: empty functions, whose contracts are theorems about the definitions of specs/.
 ghost use Rattle.st_number.specs.Bounds.{BoundsLaw, ToSidesLaw};
 ghost use Rattle.st_number.specs.Greatest.{FiniteLaw, HeightsLaw};
+ghost use Rattle.st_number.specs.Numbers.{NumbersLaw};
 
 use st_sides::{Sides, laws};
 
@@ -20,6 +21,15 @@ pub fn to_sides()
 /// edges' crossings from left to right.
 pub fn heights(sides: &Sides)
     ensures { HeightsLaw sides.now }
+{
+    laws::local(sides);
+}
+
+/// Heights and columns as functions, for every value of `Sides`: under any weights there are some, for the same weights they
+/// are the same, and they begin at 0; columns grow along the arcs of the dual, and heights along the edges where each edge
+/// weighs 1 or more.
+pub fn numbers(sides: &Sides)
+    ensures { NumbersLaw sides.now }
 {
     laws::local(sides);
 }

@@ -11,5 +11,5 @@ mod weights;
 
 pub use dual_pass::columns;
 pub use multiple::parallel;
-pub use passes::heights;
+pub use passes::{heights, pass, signed};
 pub use weights::Weights;

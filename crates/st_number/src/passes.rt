@@ -30,8 +30,16 @@ fn take_all<F: Fn(EdgeId) -> u32>(
     Ok(taken)
 }
 
-/// What the edges in order bring to each vertex.
-fn pass(
+/// What one pass along the edges brings to each vertex: no less than any edge into the vertex brings, and what one of them
+/// brings, or 0. An edge brings what its tail has, and its own weight. Where there is no cycle and an edge leads to each vertex
+/// but one, these are the greatest weights of walks from that one (`laws::greatest`).
+///
+/// Shape: one entry per vertex, by number.
+/// Conditions: there are fewer than 2^30 edges, whose ends are vertices, and one weight an edge, at most `most`, which is at
+/// most 1000; the order has each edge once, after all edges into its tail.
+/// Errors: `NoMemory`.
+/// Cost: O(V + E) time, one list. Not proved.
+pub fn pass(
     alloc: Global,
     graph: &Digraph,
     taken: &IdVec<EdgeId, u32>,
@@ -59,7 +67,10 @@ fn pass(
 }
 
 /// The numbers as signed ones, which coordinates are.
-pub(crate) fn signed<K: Id>(alloc: Global, sums: &IdVec<K, u64>) -> Result<IdVec<K, i64>, NoMemory>
+///
+/// Errors: `NoMemory`.
+/// Cost: one pass over the list, one list. Not proved.
+pub fn signed<K: Id>(alloc: Global, sums: &IdVec<K, u64>) -> Result<IdVec<K, i64>, NoMemory>
     requires room { length sums.now ≤ 2 ^ 31 }
     requires few { (k : ℕ) → k < length sums.now → slice_index sums.now k < 2 ^ 63 }
     ensures { IfOk result (λ v. v ≡ map (λ n. pos n) sums.now) }
