@@ -18,13 +18,13 @@ use Rattle.st_sides.specs.SidesOf.{IsSidesOf}
 use Rattle.st_sides.specs.Sides.{SidesValue, edge_count, face_left, face_right, IsSides}
 use Rattle.st_number.specs.Greatest.{IsHeight, IsColumn}
 use Rattle.st_number.proofs.BoundLemmas.{bounds_law, to_sides}
+use Rattle.st_number.proofs.NumberLemmas.{numbers_law}
 use Rattle.st_number.specs.Heights.{AreHeights, AreColumns}
+use Rattle.st_number.specs.Numbers.{AreNumbers, AreWeights}
 use Rattle.st_picture.specs.Bars.{number_at, bars, AreTables, HasFrame, HasNaturals}
-use Rattle.draw_vis.specs.Numbers.{AreNumbers, AreWeights}
 use Rattle.draw_vis.specs.Tables.{AreLeftColumns, AreTablesBy, IsLaidOut}
 use Rattle.draw_vis.specs.Tessellation.{boxes, IsTessellationBy}
 use Rattle.draw_vis.specs.Visibility.{in_left_column, IsVisibilityBy}
-use Rattle.draw_vis.proofs.NumberLemmas.{heights_grow, columns_grow}
 use Rattle.draw_vis.proofs.SameLemmas.{bars_of_lines}
 use Rattle.draw_vis.proofs.RowLemmas.{sink_in}
 
@@ -64,8 +64,8 @@ module _ (g : SidesValue) (S : IsSides g) (w : ℕ → ℕ) (hs cs : List ℤ) (
       record {
         heights_are = naturals hs g.vertices y H;
         columns_are = naturals cs (g.t_star + 1) c C;
-        up = heights_grow g S w W (number_at hs) numbers_are.height;
-        rightward = columns_grow g S (number_at cs) numbers_are.column;
+        up = (numbers_law g S).heights_grow w (number_at hs) W numbers_are.height;
+        rightward = (numbers_law g S).columns_grow (number_at cs) numbers_are.column;
         high = omega arith;
         wide = omega arith;
       }

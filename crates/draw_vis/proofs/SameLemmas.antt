@@ -13,6 +13,7 @@ use Rattle.st_shape.specs.Rules.{Drawing}
 use Rattle.st_sides.specs.Objects.{vertex}
 use Rattle.st_sides.specs.Sides.{SidesValue, edge_count, edge_tail, edge_head, face_left, face_right, left_of, right_of, low, high, primal, dual, IsInner, IsSides}
 use Rattle.st_sides.proofs.ExclusiveLemmas.{across}
+use Rattle.st_number.proofs.NumberLemmas.{numbers_law}
 use Rattle.st_picture.specs.Bars.{bar, bar_start, upright, bars}
 use Rattle.st_picture.specs.Items.{at, each, labels, line}
 use Rattle.st_picture.specs.Naming.{vertex_name, edge_name}
@@ -21,7 +22,6 @@ use Rattle.st_picture.proofs.SpanLemmas.{right_in}
 use Rattle.draw_vis.specs.Laws.{PicturesLaw}
 use Rattle.draw_vis.specs.Tessellation.{full_bar, box, post, boxes}
 use Rattle.draw_vis.specs.Visibility.{in_left_column}
-use Rattle.draw_vis.proofs.NumberLemmas.{same_heights, same_columns, numbers}
 use Rattle.draw_vis.proofs.RowLemmas.{sink_in}
 
 -- ---- items
@@ -144,10 +144,10 @@ module _ (g : SidesValue) (S : IsSides g) where
 
   pub pictures_law : PicturesLaw g
   pictures_law = record {
-    some_visibility = λ w N. (let M = numbers g S w in (bars g N Visibility M.0 M.1 (in_left_column g M.1), record { y = M.0; c = M.1; numbers = M.2; is = refl }));
+    some_visibility = λ w N. (let M = (numbers_law g S).some w in (bars g N Visibility M.0 M.1 (in_left_column g M.1), record { y = M.0; c = M.1; numbers = M.2; is = refl }));
     one_visibility = λ w N d d' A B.
-        A.is ∙ one_bars N A.y A.c B.y B.c (same_heights g S w A.y B.y A.numbers.height B.numbers.height) (same_columns g S A.c B.c A.numbers.column B.numbers.column) ∙ sym B.is;
-    some_tessellation = λ w N. (let M = numbers g S w in (boxes g N M.0 M.1, record { y = M.0; c = M.1; numbers = M.2; is = refl }));
+        A.is ∙ one_bars N A.y A.c B.y B.c ((numbers_law g S).same_heights w A.y B.y A.numbers.height B.numbers.height) ((numbers_law g S).same_columns A.c B.c A.numbers.column B.numbers.column) ∙ sym B.is;
+    some_tessellation = λ w N. (let M = (numbers_law g S).some w in (boxes g N M.0 M.1, record { y = M.0; c = M.1; numbers = M.2; is = refl }));
     one_tessellation = λ w N d d' A B.
-        A.is ∙ one_boxes N A.y A.c B.y B.c (same_heights g S w A.y B.y A.numbers.height B.numbers.height) (same_columns g S A.c B.c A.numbers.column B.numbers.column) ∙ sym B.is;
+        A.is ∙ one_boxes N A.y A.c B.y B.c ((numbers_law g S).same_heights w A.y B.y A.numbers.height B.numbers.height) ((numbers_law g S).same_columns A.c B.c A.numbers.column B.numbers.column) ∙ sym B.is;
   }

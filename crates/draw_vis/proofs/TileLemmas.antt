@@ -18,6 +18,8 @@ use Rattle.st_shape.specs.Boxes.{HasCell, HasOneBox, IsTiled}
 use Rattle.st_shape.specs.Rules.{Drawing, FitsFrame}
 use Rattle.st_sides.specs.Sides.{SidesValue, edge_count, edge_tail, edge_head, face_left, face_right, left_of, right_of, low, high, outs, ins, primal, IsInner, MeetsLow, MeetsHigh, IsSides}
 use Rattle.st_sides.specs.Objects.{vertex}
+use Rattle.st_number.specs.Numbers.{AreWeights}
+use Rattle.st_number.proofs.NumberLemmas.{numbers_law}
 use Rattle.st_picture.specs.Bars.{bar_start}
 use Rattle.st_picture.specs.Drawn.{IsFitting}
 use Rattle.st_picture.specs.Growing.{GrowsUp, GrowsRight, IsInBox}
@@ -27,11 +29,9 @@ use Rattle.st_picture.proofs.FigureLemmas.{figures_law, reach_grows}
 use Rattle.st_picture.proofs.NaturalLemmas.{pos_less, pos_most, inside}
 use Rattle.st_picture.proofs.PlaceLemmas.{all_append, all_each, all_labels, all_at, later_place, first_place, place_cases}
 use Rattle.st_picture.proofs.SpanLemmas.{low_height, low_column, right_column, wide}
-use Rattle.draw_vis.specs.Numbers.{AreWeights}
 use Rattle.draw_vis.specs.Rows.{HasBox, IsRow, ShowsRows, IsTessellated}
 use Rattle.draw_vis.specs.Tables.{frame_of}
 use Rattle.draw_vis.specs.Tessellation.{full_bar, box, post, boxes, IsTessellation, IsTessellationBy}
-use Rattle.draw_vis.proofs.NumberLemmas.{heights_grow, columns_grow, source_height, first_column}
 use Rattle.draw_vis.proofs.RowLemmas.{LastIs-weaken, Linked-weaken, out_left, out_right, in_left, in_right, no_out, no_in}
 
 less_of : (k l : ℕ) → pos k <ℤ pos l → k < l
@@ -219,9 +219,10 @@ module _ (g : SidesValue) (S : IsSides g) (N : Names) (A : AreNames g N) (y c : 
 
 pub tessellation_drawn : (g : SidesValue) → IsSides g → (w : ℕ → ℕ) → AreWeights g w → (N : Names) → AreNames g N → (d : Drawing) → IsTessellation g w N d → IsTessellated g d
 tessellation_drawn g S w W N A d D =
-    let up = heights_grow g S w W D.y D.numbers.height in
-    let rightward = columns_grow g S D.c D.numbers.column in
-    subst (IsTessellated g) (sym D.is) (boxes_drawn g S N A D.y D.c up rightward (first_column g S D.c D.numbers.column) (source_height g S w D.y D.numbers.height))
+    let L = numbers_law g S in
+    let up = L.heights_grow w D.y W D.numbers.height in
+    let rightward = L.columns_grow D.c D.numbers.column in
+    subst (IsTessellated g) (sym D.is) (boxes_drawn g S N A D.y D.c up rightward (L.first_column D.c D.numbers.column) (L.source_height w D.y D.numbers.height))
 
 pub tiled_by : (answer : EdgeId → ℕ → Type 0) (g : SidesValue) → IsSides g → (N : Names) → AreNames g N → (d : Drawing) → IsTessellationBy answer g N d → IsTessellated g d
 tiled_by answer g S N A d T = tessellation_drawn g S T.weight T.from_one N A d T.picture

@@ -6,9 +6,9 @@ use Rattle.std.specs.Prelude.{ℕ, ◌≡◌}
 use Rattle.st_ids.specs.declared.names.Names.{Names}
 use Rattle.st_shape.specs.Rules.{Drawing}
 use Rattle.st_sides.specs.Sides.{SidesValue}
+use Rattle.st_number.specs.Numbers.{AreWeights}
 use Rattle.st_picture.specs.Drawn.{IsDrawn}
 use Rattle.st_picture.specs.Naming.{AreNames}
-use Rattle.draw_vis.specs.Numbers.{AreWeights}
 use Rattle.draw_vis.specs.Rows.{IsTessellated}
 use Rattle.draw_vis.specs.Tessellation.{IsTessellation}
 use Rattle.draw_vis.specs.Visibility.{IsVisibility}

@@ -1,5 +1,4 @@
 pub mod Laws
-pub mod Numbers
 pub mod Rows
 pub mod Tables
 pub mod Tessellation

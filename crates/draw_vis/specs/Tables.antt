@@ -8,10 +8,10 @@ use Rattle.std.specs.Prelude.{ℕ, ◌≡◌, ◌+◌, ◌<◌, ◌≤◌, List,
 use Rattle.st_ids.specs.declared.ids.EdgeId.{EdgeId}
 use Rattle.st_shape.specs.declared.point.Point.{Point}
 use Rattle.st_sides.specs.Sides.{SidesValue, edge_count, face_left}
+use Rattle.st_number.specs.Numbers.{AreNumbers, AreWeights}
 use Rattle.st_picture.specs.Bars.{number_at, HasNaturals}
 use Rattle.st_picture.specs.Growing.{GrowsUp, GrowsRight}
 use Rattle.st_picture.specs.Items.{at}
-use Rattle.draw_vis.specs.Numbers.{AreNumbers, AreWeights}
 
 -- There is a height for each vertex and a column for each dual node; heights grow along the edges, and columns along the arcs
 -- of the dual; the last of them are no greater than a coordinate may be.

@@ -16,10 +16,10 @@ use Rattle.st_shape.specs.declared.item.Item.TheVariants.{Bar, Rect, Face}
 use Rattle.st_shape.specs.declared.picture.Form.TheVariants.{Tessellation}
 use Rattle.st_shape.specs.Rules.{Drawing}
 use Rattle.st_sides.specs.Sides.{SidesValue, edge_count, edge_tail, edge_head, face_left, face_right, left_of, right_of, low, high}
+use Rattle.st_number.specs.Numbers.{AreNumbers, AreWeights}
 use Rattle.st_picture.specs.Bars.{bar_start}
 use Rattle.st_picture.specs.Items.{at, each, labels}
 use Rattle.st_picture.specs.Naming.{vertex_name, edge_name}
-use Rattle.draw_vis.specs.Numbers.{AreNumbers, AreWeights}
 
 -- the vertex v as a bar
 abbrev pub full_bar : SidesValue → Names → (ℕ → ℕ) → (ℕ → ℕ) → ℕ → Item

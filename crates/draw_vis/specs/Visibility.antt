@@ -10,8 +10,8 @@ use Rattle.st_ids.specs.declared.names.Names.{Names}
 use Rattle.st_shape.specs.declared.picture.Form.TheVariants.{Visibility}
 use Rattle.st_shape.specs.Rules.{Drawing}
 use Rattle.st_sides.specs.Sides.{SidesValue, edge_count, face_left}
+use Rattle.st_number.specs.Numbers.{AreNumbers, AreWeights}
 use Rattle.st_picture.specs.Bars.{bars}
-use Rattle.draw_vis.specs.Numbers.{AreNumbers, AreWeights}
 
 -- the column of the node on the left of e
 abbrev pub in_left_column : SidesValue → (ℕ → ℕ) → ℕ → ℕ
