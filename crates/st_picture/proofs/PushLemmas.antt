@@ -1,5 +1,6 @@
 -- Loops that push items: the picture begins with what it had, and has the items of a function behind it.
 --   pushed        one item more
+--   same_frame, one_more   it leaves the frame, and there is one item more
 --   length-each   how many items there are
 --   each_count    the same in a picture
 --   edge_name_is  what the table of edge names has at an edge
@@ -19,6 +20,15 @@ pushed d f v w d' e x s r p q =
     ∙ ap (λ z. let t : Drawing = record d { items = (d.items ++ each f v) ++ z ∷ [] } in t) r
     ∙ ap (λ z. let t : Drawing = record d { items = z } in t) (append_assoc d.items (each f v) (f v ∷ []))
     ∙ ap (λ z. let t : Drawing = record d { items = d.items ++ each f z } in t) (sym s)
+
+pub same_frame : (d e : Drawing) (x : Item) → e ≡ record d { items = d.items ++ x ∷ [] } → e.frame ≡ d.frame
+same_frame d e x q = ap (λ z. z.frame) q
+
+pub one_more : (d e : Drawing) (x : Item) → e ≡ record d { items = d.items ++ x ∷ [] } → length e.items ≡ length d.items + 1
+one_more d e x q =
+    let n : length e.items ≡ length (d.items ++ x ∷ []) = ap (λ z. length z.items) q in
+    let l = length-append d.items (x ∷ []) in
+    omega arith
 
 pub length-each : (f : ℕ → Item) (n : ℕ) → length (each f n) ≡ n
 length-each f zero = refl

@@ -1,9 +1,11 @@
 -- Tables of numbers that code reads.
 --   number_is, number_before   a natural number that a table has, and the one before it
 --   HasAt, has_at              a table has a natural number at a place
+--   Has, number_of, naturals   a table has these natural numbers
 --   left_at, right_at          the table of columns has the nodes beside a vertex
-use Rattle.std.proofs.Common.{ℕ, ◌≡◌, ◌<◌, ◌≤◌, ◌+◌, ◌-◌, List, length, slice_index_or, ℤ, pos, ◌-ℤ◌, ◌≤ℤ◌, nat_abs, sym, subst, arith, ap, ◌∙◌}
+use Rattle.std.proofs.Common.{ℕ, ◌≡◌, ◌<◌, ◌≤◌, ◌+◌, ◌-◌, List, length, slice_get, slice_index_or, Some, ℤ, pos, ◌-ℤ◌, ◌≤ℤ◌, nat_abs, refl, sym, subst, arith, ap, ◌∙◌}
 use Rattle.std.proofs.lemmas.Int.{ints}
+use Rattle.std.proofs.lemmas.Option.{get_or_from_slice_get}
 use Rattle.st_shape.specs.declared.item.Item.TheVariants.{Bar, Line}
 use Rattle.st_shape.specs.declared.point.Point.{Point}
 use Rattle.st_sides.specs.Objects.{vertex}
@@ -34,6 +36,27 @@ pub record HasAt (table : List ℤ) (i : ℕ) : Type 0 where
 
 pub has_at : (table : List ℤ) (n i : ℕ) → HasNaturals table n → i < n → HasAt table i
 has_at table n i h l = (let m : n ≤ length table = h.size in record { there = omega arith; natural = h.natural i l })
+
+-- the table has these natural numbers, and no others
+pub record Has (table : List ℤ) (n : ℕ) (h : ℕ → ℕ) : Type 0 where
+  pub size : length table ≡ n
+  pub at : (i : ℕ) → i < n → slice_get table i ≡ Some (pos (h i))
+
+abs_is : (k : ℕ) → nat_abs (pos k) ≡ k
+abs_is k = refl
+
+natural : (z : ℤ) (k : ℕ) → z ≡ pos k → pos 0 ≤ℤ z
+natural z k q = omega (arith, ints)
+
+pub number_of : (table : List ℤ) (n : ℕ) (h : ℕ → ℕ) → Has table n h → (i : ℕ) → i < n → number_at table i ≡ h i
+unfolding number_at
+number_of table n h H i l = ap nat_abs (get_or_from_slice_get table i (pos (h i)) (pos 0) (H.at i l)) ∙ abs_is (h i)
+
+pub naturals : (table : List ℤ) (n : ℕ) (h : ℕ → ℕ) → Has table n h → HasNaturals table n
+naturals table n h H = record {
+  size = (let q : length table ≡ n = H.size in omega arith);
+  natural = λ i l. natural (slice_index_or table i (pos 0)) (h i) (get_or_from_slice_get table i (pos (h i)) (pos 0) (H.at i l));
+}
 
 pub bar_is : {n m y j a b r s : ℤ} → n ≡ m → y ≡ j → a ≡ b → r ≡ s → Bar n y a r ≡ Bar m j b s
 bar_is {n} {m} {y} {j} {a} {b} {r} {s} p q t u = ap (λ z. Bar z y a r) p ∙ ap (λ z. Bar m z a r) q ∙ ap (λ z. Bar m j z r) t ∙ ap (λ z. Bar m j b z) u

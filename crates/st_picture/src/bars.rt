@@ -8,13 +8,14 @@ ghost use Rattle.st_shape.specs.Rules.{FitsFrame};
 ghost use Rattle.st_sides.specs.Sides.{edge_count};
 
 use crate::labels::push_labels;
+use crate::pushing::push_each;
 use st_ids::{EdgeId, FaceId, Names, NoMemory, VertexId};
 use st_shape::{Form, Item, Picture, Point, Points};
 use st_sides::{Sides, laws};
 use std::alloc::Global;
 
 /// The number that stands at a place of the table.
-pub(crate) fn number_in(table: &[i64], i: u32) -> i64
+pub fn number_in(table: &[i64], i: u32) -> i64
     requires there { i < length table.now }
     requires natural { pos 0 ≤ℤ slice_index_or table.now i (pos 0) }
     ensures { result ≡ pos (number_at table.now i) }
@@ -94,10 +95,9 @@ fn push_bars(
     requires room { length picture.old.items + sides.now.vertices < 2 ^ 31 }
     ensures { OnOk result (picture.new ≡ record picture.old { items = picture.old.items ++ each (bar sides.now names.now (number_at heights.now) (number_at columns.now)) sides.now.vertices }) }
 {
-    for v in 0..sides.vertices() {
-        picture.push(bar(sides, heights, columns, names, VertexId(v)))?;
-    }
-    Ok(())
+    push_each(picture, sides.vertices(), |v| {
+        bar(sides, heights, columns, names, VertexId(v))
+    })
 }
 
 /// The upright line of an edge.
@@ -143,10 +143,9 @@ fn push_lines(
     requires room { length picture.old.items + edge_count sides.now < 2 ^ 31 }
     ensures { OnOk result (picture.new ≡ record picture.old { items = picture.old.items ++ each (line sides.now names.now (upright sides.now (number_at heights.now) (number_at lines.now))) (edge_count sides.now) }) }
 {
-    for e in 0..sides.edges() {
-        picture.push(upright(alloc, sides, heights, lines, names, EdgeId(e)))?;
-    }
-    Ok(())
+    push_each(picture, sides.edges(), |e| {
+        upright(alloc, sides, heights, lines, names, EdgeId(e))
+    })
 }
 
 /// The picture of bars and lines: each vertex is a level bar at its height, from the column of its left to the one before

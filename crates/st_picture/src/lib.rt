@@ -4,8 +4,10 @@
 mod bars;
 mod labels;
 pub mod laws;
+mod pushing;
 #[cfg(test)]
 mod tests;
 
-pub use bars::bars_and_lines;
+pub use bars::{bars_and_lines, number_in};
 pub use labels::push_labels;
+pub use pushing::push_each;
