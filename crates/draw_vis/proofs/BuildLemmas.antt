@@ -1,6 +1,5 @@
 -- The items of a tessellation, put together.
 --   counts          how many vertices, nodes and edges there are
---   has_labels      names have labels that can be shown
 --   whole           bars, boxes and upright lines, added one after the other
 --   figures         the picture begins with the vertices
 --   finished        with the labels it is the tessellation
@@ -14,7 +13,7 @@ use Rattle.st_sides.specs.Held.{IsHeld}
 use Rattle.st_sides.specs.Sides.{SidesValue, edge_count}
 use Rattle.st_picture.specs.Bars.{bar_start}
 use Rattle.st_picture.specs.Items.{each, labels, place_at, HasFigures}
-use Rattle.st_picture.specs.Naming.{AreNames, HasLabels}
+use Rattle.st_picture.specs.Naming.{AreNames}
 use Rattle.st_picture.proofs.LabelLemmas.{place_is}
 use Rattle.st_picture.proofs.PlaceLemmas.{first_place, labels_same}
 use Rattle.draw_vis.specs.Tables.{frame_of}
@@ -23,12 +22,6 @@ use Rattle.draw_vis.specs.Tessellation.{full_bar, box, post, boxes}
 pub counts : (g : SidesValue) → IsHeld g → g.vertices + g.t_star ≡ edge_count g + 2
 unfolding edge_count
 counts g H = omega (arith, H.own.planar.euler, H.own.sides.nodes)
-
-pub has_labels : (g : SidesValue) (N : Names) → AreNames g N → HasLabels N
-has_labels g N A = record {
-  named = omega (arith, A.labels, A.vertices);
-  texts = λ v text l q. A.texts v text (subst (λ z. v < z) A.labels l) q;
-}
 
 abbrev pub tiles : Point → List Item → Drawing
 tiles frame items = record { form = Tessellation; frame = frame; items = items }

@@ -5,10 +5,8 @@
 --   by_tables, laid   the same of the heights and the columns that the calls give
 --   by_bars, by_boxes   bars and lines, or boxes, of these tables are the pictures under the weights that were taken
 --   left_columns    a table of the columns on the left of edges
-use Rattle.std.proofs.Common.{ℕ, List, ◌≡◌, ◌<◌, ◌≤◌, ◌+◌, ◌-◌, ◌*◌, ℤ, pos, ◌≤ℤ◌, nat_abs, arith, refl, sym, ap, ◌∙◌, subst, length, slice_get, slice_index_or, Some}
-use Rattle.std.proofs.lemmas.Int.{ints}
+use Rattle.std.proofs.Common.{ℕ, List, ◌≡◌, ◌<◌, ◌≤◌, ◌+◌, ◌-◌, ◌*◌, ℤ, arith, sym, ap, ◌∙◌, subst, length}
 use Rattle.std.proofs.lemmas.Nat.{mul-le}
-use Rattle.std.proofs.lemmas.Option.{get_or_from_slice_get}
 use Rattle.st_ids.specs.declared.ids.EdgeId.{EdgeId}
 use Rattle.st_ids.specs.declared.names.Names.{Names}
 use Rattle.st_map.specs.Embedded.{Embedded, edges}
@@ -21,39 +19,19 @@ use Rattle.st_number.proofs.BoundLemmas.{bounds_law, to_sides}
 use Rattle.st_number.proofs.NumberLemmas.{numbers_law}
 use Rattle.st_number.specs.Heights.{AreHeights, AreColumns}
 use Rattle.st_number.specs.Numbers.{AreNumbers, AreWeights}
-use Rattle.st_picture.specs.Bars.{number_at, bars, AreTables, HasFrame, HasNaturals}
+use Rattle.st_picture.specs.Bars.{number_at, bars, AreTables, HasFrame}
+use Rattle.st_picture.proofs.SpanLemmas.{sink_in}
+use Rattle.st_picture.proofs.TableLemmas.{Has, number_of, naturals}
 use Rattle.draw_vis.specs.Tables.{AreLeftColumns, AreTablesBy, IsLaidOut}
 use Rattle.draw_vis.specs.Tessellation.{boxes, IsTessellationBy}
 use Rattle.draw_vis.specs.Visibility.{in_left_column, IsVisibilityBy}
 use Rattle.draw_vis.proofs.SameLemmas.{bars_of_lines}
-use Rattle.draw_vis.proofs.RowLemmas.{sink_in}
-
--- the table has these natural numbers
-pub record Has (table : List ℤ) (n : ℕ) (h : ℕ → ℕ) : Type 0 where
-  pub size : length table ≡ n
-  pub at : (i : ℕ) → i < n → slice_get table i ≡ Some (pos (h i))
-
-abs_is : (k : ℕ) → nat_abs (pos k) ≡ k
-abs_is k = refl
-
-natural : (z : ℤ) (k : ℕ) → z ≡ pos k → pos 0 ≤ℤ z
-natural z k q = omega (arith, ints)
-
-pub number_is : (table : List ℤ) (n : ℕ) (h : ℕ → ℕ) → Has table n h → (i : ℕ) → i < n → number_at table i ≡ h i
-unfolding number_at
-number_is table n h H i l = ap nat_abs (get_or_from_slice_get table i (pos (h i)) (pos 0) (H.at i l)) ∙ abs_is (h i)
-
-pub naturals : (table : List ℤ) (n : ℕ) (h : ℕ → ℕ) → Has table n h → HasNaturals table n
-naturals table n h H = record {
-  size = (let q : length table ≡ n = H.size in omega arith);
-  natural = λ i l. natural (slice_index_or table i (pos 0)) (h i) (get_or_from_slice_get table i (pos (h i)) (pos 0) (H.at i l));
-}
 
 module _ (g : SidesValue) (S : IsSides g) (w : ℕ → ℕ) (hs cs : List ℤ) (y c : ℕ → ℕ) (H : Has hs g.vertices y) (C : Has cs (g.t_star + 1) c) (heights : (v : ℕ) → v < g.vertices → IsHeight g w v (y v)) (columns : (f : ℕ) → f ≤ g.t_star → IsColumn g f (c f)) where
   pub numbers_are : AreNumbers g w (number_at hs) (number_at cs)
   numbers_are = record {
-    height = λ v l. subst (IsHeight g w v) (sym (number_is hs g.vertices y H v l)) (heights v l);
-    column = λ f l. subst (IsColumn g f) (sym (number_is cs (g.t_star + 1) c C f (omega arith))) (columns f l);
+    height = λ v l. subst (IsHeight g w v) (sym (number_of hs g.vertices y H v l)) (heights v l);
+    column = λ f l. subst (IsColumn g f) (sym (number_of cs (g.t_star + 1) c C f (omega arith))) (columns f l);
   }
 
   pub laid_out : AreWeights g w → (most : ℕ) → ((e : ℕ) → e < edge_count g → w e ≤ most) → g.vertices * most ≤ 50000000 → edge_count g ≤ 50000000 → IsLaidOut g hs cs
@@ -73,7 +51,7 @@ module _ (g : SidesValue) (S : IsSides g) (w : ℕ → ℕ) (hs cs : List ℤ) (
 pub left_columns : (g : SidesValue) (cs lines : List ℤ) → Has lines (edge_count g) (λ e. number_at cs (face_left g e)) → AreLeftColumns g (number_at cs) lines
 left_columns g cs lines H = record {
   lines_are = naturals lines (edge_count g) (λ e. number_at cs (face_left g e)) H;
-  each = λ e l. number_is lines (edge_count g) (λ e. number_at cs (face_left g e)) H e l;
+  each = λ e l. number_of lines (edge_count g) (λ e. number_at cs (face_left g e)) H e l;
 }
 
 -- tables for bars and lines

@@ -4,5 +4,4 @@ pub mod LaidLemmas
 pub mod NumberLemmas
 pub mod RowLemmas
 pub mod SameLemmas
-pub mod TableLemmas
 pub mod TileLemmas

@@ -10,7 +10,7 @@ use Rattle.st_ids.specs.Walks.{Arcs, Walk, stay, step}
 use Rattle.st_ids.proofs.ListLemmas.{not_in_nil, FirstIs-weaken}
 use Rattle.st_ids.proofs.WalkLemmas.{walk_from, walk_to}
 use Rattle.st_sides.specs.Sides.{SidesValue, face_left, face_right, left_of, right_of, outs, ins, MeetsLow, MeetsHigh, IsSides}
-use Rattle.st_picture.proofs.SpanLemmas.{poles_differ}
+use Rattle.st_picture.proofs.SpanLemmas.{poles_differ, sink_in}
 
 -- ---- lists
 pub LastIs-weaken : (P Q : ℕ → Type 0) (xs : List ℕ) → ((x : ℕ) → In x xs → P x → Q x) → LastIs P xs → LastIs Q xs
@@ -74,18 +74,12 @@ module _ (g : SidesValue) (S : IsSides g) where
       (last_by (MeetsLow g g.source) h.0 (outs g g.source) (S.outs_meet g.source S.source_in) ((S.outs_are g.source S.source_in).all h.0 (k.0, h.2))
       (λ d m. (let a : face_right g h.0 < g.t_star = m.inner.not_t in let c : face_right g h.0 ≡ g.t_star = k.1 in omega arith)))
 
-  pub sink_in : g.sink < g.vertices
-  sink_in =
-      let h = last_arc (walk_from S.low_s (walk_to S.high_s (S.right_path_walk 0 S.has_t))) (poles_differ g S) in
-      let k = (S.right_path_are 0 S.has_t).only h.0 h.1 in
-      subst (λ z. z < g.vertices) h.2 (S.head_in h.0 k.0)
-
   sink_left : FirstIs (λ e. left_of g g.sink ≡ face_left g e) (ins g g.sink)
   sink_left =
       let h = last_arc (walk_from S.low_s (walk_to S.high_s (S.right_path_walk 0 S.has_t))) (poles_differ g S) in
       let k = (S.right_path_are 0 S.has_t).only h.0 h.1 in
       FirstIs-weaken (λ z. z ≡ h.0) (λ e. left_of g g.sink ≡ face_left g e) (ins g g.sink) (λ x i q. S.left_sink ∙ sym k.1 ∙ ap (face_left g) (sym q))
-      (first_by (MeetsHigh g g.sink) h.0 (ins g g.sink) (S.ins_meet g.sink sink_in) ((S.ins_are g.sink sink_in).all h.0 (k.0, h.2))
+      (first_by (MeetsHigh g g.sink) h.0 (ins g g.sink) (S.ins_meet g.sink (sink_in g S)) ((S.ins_are g.sink (sink_in g S)).all h.0 (k.0, h.2))
       (λ d m. (let a : 0 < face_right g d = m.inner.not_s in let b : face_right g d ≡ face_left g h.0 = m.same in let c : face_left g h.0 ≡ 0 = k.1 in omega arith)))
 
   sink_right : LastIs (λ e. right_of g g.sink ≡ face_right g e) (ins g g.sink)
@@ -93,7 +87,7 @@ module _ (g : SidesValue) (S : IsSides g) where
       let h = last_arc (walk_from S.low_t (walk_to S.high_t (S.left_path_walk g.t_star S.has_t (omega arith)))) (poles_differ g S) in
       let k = (S.left_path_are g.t_star S.has_t (omega arith)).only h.0 h.1 in
       LastIs-weaken (λ z. z ≡ h.0) (λ e. right_of g g.sink ≡ face_right g e) (ins g g.sink) (λ x i q. S.right_sink ∙ sym k.1 ∙ ap (face_right g) (sym q))
-      (last_by (MeetsHigh g g.sink) h.0 (ins g g.sink) (S.ins_meet g.sink sink_in) ((S.ins_are g.sink sink_in).all h.0 (k.0, h.2))
+      (last_by (MeetsHigh g g.sink) h.0 (ins g g.sink) (S.ins_meet g.sink (sink_in g S)) ((S.ins_are g.sink (sink_in g S)).all h.0 (k.0, h.2))
       (λ d m. (let a : face_right g h.0 < g.t_star = m.inner.not_t in let c : face_right g h.0 ≡ g.t_star = k.1 in omega arith)))
 
   -- ---- at each vertex

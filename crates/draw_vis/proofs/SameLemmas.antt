@@ -17,12 +17,12 @@ use Rattle.st_number.proofs.NumberLemmas.{numbers_law}
 use Rattle.st_picture.specs.Bars.{bar, bar_start, upright, bars}
 use Rattle.st_picture.specs.Items.{at, each, labels, line}
 use Rattle.st_picture.specs.Naming.{vertex_name, edge_name}
+use Rattle.st_picture.proofs.JoinLemmas.{bars_same, drawing_same}
 use Rattle.st_picture.proofs.PlaceLemmas.{each_same, labels_same}
-use Rattle.st_picture.proofs.SpanLemmas.{right_in}
+use Rattle.st_picture.proofs.SpanLemmas.{right_in, sink_in}
 use Rattle.draw_vis.specs.Laws.{PicturesLaw}
 use Rattle.draw_vis.specs.Tessellation.{full_bar, box, post, boxes}
 use Rattle.draw_vis.specs.Visibility.{in_left_column}
-use Rattle.draw_vis.proofs.RowLemmas.{sink_in}
 
 -- ---- items
 at_same : (a b a' b' : ℕ) → a ≡ a' → b ≡ b' → at a b ≡ at a' b'
@@ -30,12 +30,6 @@ at_same a b a' b' e f = ap (λ z. at z b) e ∙ ap (λ z. at a' z) f
 
 bar_same : (N : Names) (v y f t y' f' t' : ℕ) → y ≡ y' → f ≡ f' → t ≡ t' → Bar (vertex_name N v) (pos y) (pos f) (pos t) ≡ Bar (vertex_name N v) (pos y') (pos f') (pos t')
 bar_same N v y f t y' f' t' a b c = ap (λ z. Bar (vertex_name N v) (pos z) (pos f) (pos t)) a ∙ ap (λ z. Bar (vertex_name N v) (pos y') (pos z) (pos t)) b ∙ ap (λ z. Bar (vertex_name N v) (pos y') (pos f') (pos z)) c
-
-two_same : (k a b k' a' b' : ℕ) → k ≡ k' → a ≡ a' → b ≡ b' → at k a ∷ at k b ∷ [] ≡ at k' a' ∷ at k' b' ∷ []
-two_same k a b k' a' b' e f h = ap (λ z. at z a ∷ at z b ∷ []) e ∙ ap (λ z. at k' z ∷ at k' b ∷ []) f ∙ ap (λ z. at k' a' ∷ at k' z ∷ []) h
-
-less_one : (a b : ℕ) → a ≡ b → a - 1 ≡ b - 1
-less_one a b e = ap (λ z. z - 1) e
 
 post_same : (f a b x a' b' x' : ℕ) → a ≡ a' → b ≡ b' → x ≡ x' → Face f (pos a) (pos b) (pos x) ≡ Face f (pos a') (pos b') (pos x')
 post_same f a b x a' b' x' p q r = ap (λ t. Face f (pos t) (pos b) (pos x)) p ∙ ap (λ t. Face f (pos a') (pos t) (pos x)) q ∙ ap (λ t. Face f (pos a') (pos b') (pos t)) r
@@ -52,9 +46,8 @@ three_same a a' b b' c c' p q r = ap (λ t. t ++ (b ++ c)) p ∙ ap (λ t. a' ++
 -- bars and lines whose lines stand in the same columns
 pub bars_of_lines : (g : SidesValue) (N : Names) (form : Form) (y c k k' : ℕ → ℕ) → ((e : ℕ) → e < edge_count g → k e ≡ k' e) → bars g N form y c k ≡ bars g N form y c k'
 bars_of_lines g N form y c k k' h =
-    ap (λ z. picture_of form (at (c g.t_star - 1) (y g.sink)) (each (bar g N y c) g.vertices ++ (z ++ labels N (bar_start g y c) g.vertices)))
-    (each_same (line g N (upright g y k)) (line g N (upright g y k')) (edge_count g)
-    (λ e a. ap (λ z. Line (edge_name N e) (vertex_name N (edge_tail g e)) (vertex_name N (edge_head g e)) (at z (y (edge_tail g e)) ∷ at z (y (edge_head g e)) ∷ [])) (h e a)))
+    drawing_same g N form (at (c g.t_star - 1) (y g.sink)) (at (c g.t_star - 1) (y g.sink)) (bar g N y c) (bar g N y c) (upright g y k) (upright g y k') (bar_start g y c) (bar_start g y c)
+    refl (λ v i. refl) (λ e a. ap (λ z. at z (y (edge_tail g e)) ∷ at z (y (edge_head g e)) ∷ []) (h e a)) (λ v i. refl)
 
 module _ (g : SidesValue) (S : IsSides g) where
   -- ---- numbers that are in range
@@ -98,19 +91,8 @@ module _ (g : SidesValue) (S : IsSides g) where
     labels_agree = labels_same N (bar_start g y c) (bar_start g y' c') g.vertices (λ v i. at_same (c (left_of g v)) (y v) (c' (left_of g v)) (y' v) (cs (left_of g v) (left_in v i)) (ys v i))
 
     -- ---- bars and lines
-    one_line : (e : ℕ) → e < edge_count g → line g N (upright g y (in_left_column g c)) e ≡ line g N (upright g y' (in_left_column g c')) e
-    one_line e a = ap (λ z. Line (edge_name N e) (vertex_name N (edge_tail g e)) (vertex_name N (edge_head g e)) z)
-        (two_same (c (face_left g e)) (y (edge_tail g e)) (y (edge_head g e)) (c' (face_left g e)) (y' (edge_tail g e)) (y' (edge_head g e)) (cs (face_left g e) (edge_left_in e a)) (ys (edge_tail g e) (S.tail_in e a)) (ys (edge_head g e) (S.head_in e a)))
-
     pub one_bars : bars g N Visibility y c (in_left_column g c) ≡ bars g N Visibility y' c' (in_left_column g c')
-    one_bars = picture_same Visibility (at (c g.t_star - 1) (y g.sink)) (at (c' g.t_star - 1) (y' g.sink))
-        (each (bar g N y c) g.vertices ++ (each (line g N (upright g y (in_left_column g c))) (edge_count g) ++ labels N (bar_start g y c) g.vertices))
-        (each (bar g N y' c') g.vertices ++ (each (line g N (upright g y' (in_left_column g c'))) (edge_count g) ++ labels N (bar_start g y' c') g.vertices))
-        (at_same (c g.t_star - 1) (y g.sink) (c' g.t_star - 1) (y' g.sink) (less_one (c g.t_star) (c' g.t_star) (cs g.t_star (omega arith))) (ys g.sink (sink_in g S)))
-        (three_same (each (bar g N y c) g.vertices) (each (bar g N y' c') g.vertices) (each (line g N (upright g y (in_left_column g c))) (edge_count g)) (each (line g N (upright g y' (in_left_column g c'))) (edge_count g)) (labels N (bar_start g y c) g.vertices) (labels N (bar_start g y' c') g.vertices)
-        (each_same (bar g N y c) (bar g N y' c') g.vertices (λ v i. bar_same N v (y v) (c (left_of g v)) (c (right_of g v) - 1) (y' v) (c' (left_of g v)) (c' (right_of g v) - 1) (ys v i) (cs (left_of g v) (left_in v i)) (less_one (c (right_of g v)) (c' (right_of g v)) (cs (right_of g v) (right_in g S v i)))))
-        (each_same (line g N (upright g y (in_left_column g c))) (line g N (upright g y' (in_left_column g c'))) (edge_count g) one_line)
-        labels_agree)
+    one_bars = bars_same g S N Visibility y c (in_left_column g c) y' c' (in_left_column g c') ys cs (λ e a. cs (face_left g e) (edge_left_in e a))
 
     -- ---- boxes
     box_same : (e a b x z a' b' x' z' : ℕ) → a ≡ a' → b ≡ b' → x ≡ x' → z ≡ z' → Rect (edge_name N e) (vertex_name N (edge_tail g e)) (vertex_name N (edge_head g e)) (at a b) (at x z) ≡ Rect (edge_name N e) (vertex_name N (edge_tail g e)) (vertex_name N (edge_head g e)) (at a' b') (at x' z')

@@ -9,6 +9,7 @@ ghost use Rattle.st_sides.specs.SidesOf.{IsSidesOf};
 
 use st_ids::{EdgeId, FaceId, IdVec, NoMemory, VertexId};
 use st_number::{Weights, columns, heights};
+use st_picture::number_in;
 use st_shape::Point;
 use st_sides::{Sides, laws};
 use st_test::StGraph;
@@ -50,7 +51,7 @@ impl Grid {
         requires natural { pos 0 ≤ℤ slice_index_or self.now.heights v.0 (pos 0) }
         ensures { result ≡ pos (number_at self.now.heights v.0) }
     {
-        *self.heights.get(v)
+        number_in(self.heights.items(), v.0)
     }
 
     /// The column of the node.
@@ -59,7 +60,7 @@ impl Grid {
         requires natural { pos 0 ≤ℤ slice_index_or self.now.columns f.0 (pos 0) }
         ensures { result ≡ pos (number_at self.now.columns f.0) }
     {
-        *self.columns.get(f)
+        number_in(self.columns.items(), f.0)
     }
 
     /// The point in the column of the node and at the height of the vertex.

@@ -13,7 +13,7 @@ ghost use Rattle.st_sides.specs.SidesOf.{IsSidesOf};
 use crate::grid::Grid;
 use st_ids::{EdgeId, FaceId, Names, NoMemory, VertexId};
 use st_number::Weights;
-use st_picture::push_labels;
+use st_picture::{push_each, push_labels};
 use st_shape::{Form, Item, Picture};
 use st_sides::{Sides, laws};
 use st_test::StGraph;
@@ -117,10 +117,9 @@ fn push_bars(
     ensures { OnOk result (picture.new ≡ record picture.old { items = picture.old.items ++ each (full_bar sides.now names.now (number_at grid.now.heights) (number_at grid.now.columns)) sides.now.vertices }) }
 {
     laws::local(sides);
-    for v in 0..sides.vertices() {
-        picture.push(full_bar(sides, grid, names, VertexId(v)))?;
-    }
-    Ok(())
+    push_each(picture, sides.vertices(), |v| {
+        full_bar(sides, grid, names, VertexId(v))
+    })
 }
 
 /// Adds the box of each edge.
@@ -137,10 +136,9 @@ fn push_boxes(
     ensures { OnOk result (picture.new ≡ record picture.old { items = picture.old.items ++ each (box sides.now names.now (number_at grid.now.heights) (number_at grid.now.columns)) (edge_count sides.now) }) }
 {
     laws::local(sides);
-    for e in 0..sides.edges() {
-        picture.push(edge_box(sides, grid, names, EdgeId(e)))?;
-    }
-    Ok(())
+    push_each(picture, sides.edges(), |e| {
+        edge_box(sides, grid, names, EdgeId(e))
+    })
 }
 
 /// Adds the upright line of each node of the dual.
@@ -151,10 +149,9 @@ fn push_posts(picture: &mut Picture, sides: &Sides, grid: &Grid) -> Result<(), N
     ensures { OnOk result (picture.new ≡ record picture.old { items = picture.old.items ++ each (post sides.now (number_at grid.now.heights) (number_at grid.now.columns)) (sides.now.t_star + 1) }) }
 {
     laws::local(sides);
-    for f in 0..sides.faces() {
-        picture.push(node_post(sides, grid, FaceId(f)))?;
-    }
-    Ok(())
+    push_each(picture, sides.faces(), |f| {
+        node_post(sides, grid, FaceId(f))
+    })
 }
 
 /// The picture of bars, boxes and upright lines of these heights and columns.

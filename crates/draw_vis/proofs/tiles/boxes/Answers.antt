@@ -5,8 +5,9 @@ use Rattle.st_picture.specs.Bars.{number_at}
 use Rattle.st_picture.specs.Items.{at}
 use Rattle.draw_vis.specs.Tables.{frame_of}
 use Rattle.draw_vis.specs.Tessellation.{full_bar, box, post, boxes}
-use Rattle.draw_vis.proofs.BuildLemmas.{counts, has_labels, tiles, whole, figures, finished}
-use Rattle.draw_vis.proofs.ItemLemmas.{added}
+use Rattle.st_picture.proofs.NameLemmas.{has_labels}
+use Rattle.st_picture.proofs.PushLemmas.{each_count}
+use Rattle.draw_vis.proofs.BuildLemmas.{counts, tiles, whole, figures, finished}
 use Rattle.draw_vis.proofs.tiles.boxes.Goals as goal
 
 pub push_bars-requires-clause-room : goal.push_bars-requires-clause-room
@@ -17,7 +18,7 @@ push_bars-requires-clause-room c =
 
 pub push_boxes-requires-clause-room : goal.push_boxes-requires-clause-room
 push_boxes-requires-clause-room c =
-    let a = added c.new-picture.result (full_bar c.args.sides.now c.args.names.now (number_at c.args.grid.now.heights) (number_at c.args.grid.now.columns)) c.args.sides.now.vertices c.push_bars.new.picture c.in_ok-push_bars.ensures in
+    let a = each_count c.new-picture.result (full_bar c.args.sides.now c.args.names.now (number_at c.args.grid.now.heights) (number_at c.args.grid.now.columns)) c.args.sides.now.vertices c.push_bars.new.picture c.in_ok-push_bars.ensures in
     let z : length c.new-picture.result.items ≡ 0 = ap (λ z. length z.items) c.new-picture.ensures in
     let t = counts c.args.sides.now c.facts.ensures in
     omega (arith, a, z, t, c.requires.few, c.local.ensures.has_t)
@@ -26,8 +27,8 @@ pub push_posts-requires-clause-room : goal.push_posts-requires-clause-room
 push_posts-requires-clause-room c =
     let y = number_at c.args.grid.now.heights in
     let k = number_at c.args.grid.now.columns in
-    let a = added c.new-picture.result (full_bar c.args.sides.now c.args.names.now y k) c.args.sides.now.vertices c.push_bars.new.picture c.in_ok-push_bars.ensures in
-    let b = added c.push_bars.new.picture (box c.args.sides.now c.args.names.now y k) (edge_count c.args.sides.now) c.push_boxes.new.picture c.in_ok-push_boxes.ensures in
+    let a = each_count c.new-picture.result (full_bar c.args.sides.now c.args.names.now y k) c.args.sides.now.vertices c.push_bars.new.picture c.in_ok-push_bars.ensures in
+    let b = each_count c.push_bars.new.picture (box c.args.sides.now c.args.names.now y k) (edge_count c.args.sides.now) c.push_boxes.new.picture c.in_ok-push_boxes.ensures in
     let z : length c.new-picture.result.items ≡ 0 = ap (λ z. length z.items) c.new-picture.ensures in
     let t = counts c.args.sides.now c.facts.ensures in
     omega (arith, a, b, z, t, c.requires.few, c.local.ensures.has_t)
@@ -51,9 +52,9 @@ pub push_labels-requires-clause-room : goal.push_labels-requires-clause-room
 push_labels-requires-clause-room c =
     let y = number_at c.args.grid.now.heights in
     let k = number_at c.args.grid.now.columns in
-    let a = added c.new-picture.result (full_bar c.args.sides.now c.args.names.now y k) c.args.sides.now.vertices c.push_bars.new.picture c.in_ok-push_bars.ensures in
-    let b = added c.push_bars.new.picture (box c.args.sides.now c.args.names.now y k) (edge_count c.args.sides.now) c.push_boxes.new.picture c.in_ok-push_boxes.ensures in
-    let d = added c.push_boxes.new.picture (post c.args.sides.now y k) (c.args.sides.now.t_star + 1) c.push_posts.new.picture c.in_ok-push_posts.ensures in
+    let a = each_count c.new-picture.result (full_bar c.args.sides.now c.args.names.now y k) c.args.sides.now.vertices c.push_bars.new.picture c.in_ok-push_bars.ensures in
+    let b = each_count c.push_bars.new.picture (box c.args.sides.now c.args.names.now y k) (edge_count c.args.sides.now) c.push_boxes.new.picture c.in_ok-push_boxes.ensures in
+    let d = each_count c.push_boxes.new.picture (post c.args.sides.now y k) (c.args.sides.now.t_star + 1) c.push_posts.new.picture c.in_ok-push_posts.ensures in
     let z : length c.new-picture.result.items ≡ 0 = ap (λ z. length z.items) c.new-picture.ensures in
     let t = counts c.args.sides.now c.facts.ensures in
     omega (arith, a, b, d, z, t, c.requires.few, c.local.ensures.has_t, c.requires.names.labels)
