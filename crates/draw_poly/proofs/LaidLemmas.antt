@@ -15,16 +15,18 @@ use Rattle.st_sides.specs.Sides.{SidesValue, edge_count, edge_tail, edge_head, I
 use Rattle.st_sides.specs.SidesOf.{IsSidesOf}
 use Rattle.st_number.specs.Greatest.{IsHeight}
 use Rattle.st_number.specs.Heights.{AreHeights, AreColumns}
+use Rattle.st_number.specs.Numbers.{AreNumbers}
 use Rattle.st_number.proofs.BoundLemmas.{bounds_law, to_sides}
 use Rattle.st_picture.specs.Bars.{number_at}
 use Rattle.st_picture.specs.Drawn.{IsDrawn}
 use Rattle.st_picture.specs.Naming.{AreNames}
 use Rattle.st_picture.proofs.SpanLemmas.{sink_in}
-use Rattle.draw_poly.specs.Numbers.{AreLong, AreNumbers, IsLongOnParallels}
+use Rattle.st_picture.proofs.TableLemmas.{Has, number_of, naturals}
+use Rattle.draw_poly.specs.Numbers.{AreLong, IsLongOnParallels}
 use Rattle.draw_poly.specs.Polyline.{polylines, IsPolylineBy}
 use Rattle.draw_poly.specs.Tables.{ArePlaces, AreTables, AreTablesBy}
 use Rattle.draw_poly.proofs.NumberLemmas.{tracks, polyline_drawn}
-use Rattle.draw_poly.proofs.TableLemmas.{Has, number_of, naturals, columns_are, has_columns, places_have, places_natural}
+use Rattle.draw_poly.proofs.TableLemmas.{columns_are, has_columns, places_have, places_natural}
 
 module _ (E : Embedded) (s t outer : ℕ) (g : SidesValue) (Q : IsSidesOf E s t outer g) where
   pub same_edges : edge_count g ≡ edges E

@@ -6,13 +6,13 @@ use Rattle.st_shape.specs.declared.picture.Form.TheVariants.{Polyline}
 use Rattle.st_shape.specs.Rules.{Drawing}
 use Rattle.st_sides.specs.Objects.{vertex}
 use Rattle.st_sides.specs.Sides.{SidesValue, edge_tail, edge_head, face_left, left_of, right_of, IsSides}
+use Rattle.st_number.proofs.NumberLemmas.{numbers_law}
 use Rattle.st_picture.specs.Items.{at}
 use Rattle.st_picture.specs.Naming.{vertex_name}
 use Rattle.st_picture.proofs.JoinLemmas.{drawing_same}
 use Rattle.st_picture.proofs.SpanLemmas.{sink_in, wide}
 use Rattle.draw_poly.specs.Laws.{IsBetween, HasPicture, PicturesLaw}
 use Rattle.draw_poly.specs.Polyline.{bends, bent, dot, dot_place, polylines, IsPolylines}
-use Rattle.draw_poly.proofs.NumberLemmas.{columns_grow, numbers, same_columns, same_heights}
 
 bends_same : (a i k b j i' k' j' : ℕ) → i ≡ i' → k ≡ k' → j ≡ j' → bends a i k b j ≡ bends a i' k' b j'
 bends_same a i k b j i' k' j' e f h = ap (λ z. bends a z k b j) e ∙ ap (λ z. bends a i' z b j) f ∙ ap (λ z. bends a i' k' b z) h
@@ -21,8 +21,8 @@ module _ (g : SidesValue) (S : IsSides g) where
   -- also where the places are given by two functions that agree on the vertices
   pub one_placed : (w p q : ℕ → ℕ) → ((v : ℕ) → v < g.vertices → p v ≡ q v) → (N : Names) (d d' : Drawing) → IsPolylines g w p N d → IsPolylines g w q N d' → d ≡ d'
   one_placed w p q ps N d d' A B =
-      let ys = same_heights g S w A.y B.y A.numbers.height B.numbers.height in
-      let cs = same_columns g S A.c B.c A.numbers.column B.numbers.column in
+      let ys = (numbers_law g S).same_heights w A.y B.y A.numbers.height B.numbers.height in
+      let cs = (numbers_law g S).same_columns A.c B.c A.numbers.column B.numbers.column in
       A.is
       ∙ drawing_same g N Polyline (at (A.c g.t_star - 1) (A.y g.sink)) (at (B.c g.t_star - 1) (B.y g.sink)) (dot N p A.y) (dot N q B.y) (bent g A.y A.c p) (bent g B.y B.c q) (dot_place p A.y) (dot_place q B.y)
       (ap (λ z. at (z - 1) (A.y g.sink)) (cs g.t_star (omega arith)) ∙ ap (at (B.c g.t_star - 1)) (ys g.sink (sink_in g S)))
@@ -43,11 +43,11 @@ module _ (g : SidesValue) (S : IsSides g) where
 
   pub some : (w : ℕ → ℕ) (N : Names) (f : ℕ → ℕ → ℕ) → IsBetween f → HasPicture g w N f
   some w N f F =
-      let M = numbers g S w in
+      let M = (numbers_law g S).some w in
       let y = M.0 in
       let c = M.1 in
       let p : ℕ → ℕ = λ v. f (c (left_of g v)) (c (right_of g v) - 1) in
-      let W : (v : ℕ) → v < g.vertices → c (left_of g v) < c (right_of g v) = λ v i. wide g S c (columns_grow g S c M.2.column) (vertex v) i in
+      let W : (v : ℕ) → v < g.vertices → c (left_of g v) < c (right_of g v) = λ v i. wide g S c ((numbers_law g S).columns_grow c M.2.column) (vertex v) i in
       record {
         p = p;
         d = polylines g N y c p;

@@ -1,6 +1,4 @@
 -- What stands in tables of heights, columns and places.
---   number_is        a natural number that a table has is the number at its place
---   Has, number_of, naturals   a table has these natural numbers
 --   has_columns, columns_are, rightward   the columns of the nodes are natural numbers that grow
 --   Ends, ends_of    the columns of the left and the right of a vertex
 --   are_ends         they are ends between which a closure may place the vertex
@@ -18,40 +16,19 @@ use Rattle.st_sides.specs.Sides.{SidesValue, edge_count, left_of, right_of, IsSi
 use Rattle.st_sides.proofs.ExclusiveLemmas.{left_below}
 use Rattle.st_number.specs.Greatest.{IsColumn}
 use Rattle.st_number.specs.Heights.{AreColumns}
+use Rattle.st_number.proofs.NumberLemmas.{numbers_law}
 use Rattle.st_picture.specs.Bars.{number_at, HasNaturals}
 use Rattle.st_picture.specs.Growing.{GrowsRight}
 use Rattle.st_picture.proofs.SpanLemmas.{right_in, wide}
+use Rattle.st_picture.proofs.TableLemmas.{Has, number_of}
 use Rattle.draw_poly.specs.Placing.{AreEnds}
 use Rattle.draw_poly.specs.Tables.{IsPlace, ArePlaces}
-use Rattle.draw_poly.proofs.NumberLemmas.{columns_grow}
-
-natural_is : (z : ℤ) → pos 0 ≤ℤ z → z ≡ pos (nat_abs z)
-natural_is z h = omega (arith, ints)
-
-pub number_is : (table : List ℤ) (i : ℕ) (z : ℤ) → slice_get table i ≡ Some z → pos 0 ≤ℤ slice_index_or table i (pos 0) → z ≡ pos (number_at table i)
-unfolding number_at
-number_is table i z q h = sym (get_or_from_slice_get table i z (pos 0) q) ∙ natural_is (slice_index_or table i (pos 0)) h
-
--- ---- tables that have these natural numbers
-pub record Has (table : List ℤ) (n : ℕ) (h : ℕ → ℕ) : Type 0 where
-  pub size : length table ≡ n
-  pub at : (i : ℕ) → i < n → slice_get table i ≡ Some (pos (h i))
 
 abs_is : (k : ℕ) → nat_abs (pos k) ≡ k
 abs_is k = refl
 
 natural : (z : ℤ) (k : ℕ) → z ≡ pos k → pos 0 ≤ℤ z
 natural z k q = omega (arith, ints)
-
-pub number_of : (table : List ℤ) (n : ℕ) (h : ℕ → ℕ) → Has table n h → (i : ℕ) → i < n → number_at table i ≡ h i
-unfolding number_at
-number_of table n h H i l = ap nat_abs (get_or_from_slice_get table i (pos (h i)) (pos 0) (H.at i l)) ∙ abs_is (h i)
-
-pub naturals : (table : List ℤ) (n : ℕ) (h : ℕ → ℕ) → Has table n h → HasNaturals table n
-naturals table n h H = record {
-  size = (let q : length table ≡ n = H.size in omega arith);
-  natural = λ i l. natural (slice_index_or table i (pos 0)) (h i) (get_or_from_slice_get table i (pos (h i)) (pos 0) (H.at i l));
-}
 
 number_there : (table : List ℤ) (i : ℕ) (z : ℤ) (k : ℕ) → slice_get table i ≡ Some z → z ≡ pos k → number_at table i ≡ k
 unfolding number_at
@@ -72,7 +49,7 @@ module _ (g : SidesValue) (S : IsSides g) (cs : List ℤ) (C : AreColumns g cs) 
   columns_are f l = subst (IsColumn g f) (sym (number_of cs (g.t_star + 1) C.column has_columns f (omega arith))) (C.greatest f l)
 
   pub rightward : GrowsRight g (number_at cs)
-  rightward = columns_grow g S (number_at cs) columns_are
+  rightward = (numbers_law g S).columns_grow (number_at cs) columns_are
 
   pub left_there : (v f : ℕ) → v < g.vertices → f ≡ left_of g v → f < length cs
   left_there v f i q =

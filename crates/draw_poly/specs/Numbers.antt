@@ -1,14 +1,12 @@
--- Heights, columns and weights that the polyline picture is made from.
+-- Weights that the polyline picture is made from.
 --   AreLong g w          each edge weighs 1 or more, and an edge that has a parallel 2 or more
 --   IsLongOnParallels answer g   whatever a closure answers on an edge that has a parallel is 2 or more
---   AreNumbers g w y c   y has the height of each vertex and c the column of each dual node
--- Letters: g sides, w weights of the edges, y heights, c columns, v vertex, e and d edges, f dual node.
+-- Letters: g sides, w weights of the edges, e and d edges.
 use Rattle.std.specs.Prelude.{ℕ, ◌≡◌, ◌≢◌, ◌<◌, ◌≤◌}
 use Rattle.st_ids.specs.declared.ids.EdgeId.{EdgeId}
 use Rattle.st_map.specs.Embedded.{Embedded, edges}
 use Rattle.st_number.specs.Parallel.{HasParallel}
 use Rattle.st_sides.specs.Sides.{SidesValue, edge_count, edge_tail, edge_head}
-use Rattle.st_number.specs.Greatest.{IsHeight, IsColumn}
 
 -- each edge weighs 1 or more, and 2 or more where another edge has the same ends
 pub record AreLong (g : SidesValue) (w : ℕ → ℕ) : Type 0 where
@@ -18,8 +16,3 @@ pub record AreLong (g : SidesValue) (w : ℕ → ℕ) : Type 0 where
 -- whatever the closure answers on an edge of the graph that has a parallel is 2 or more
 abbrev pub IsLongOnParallels : (EdgeId → ℕ → Type 0) → Embedded → Type 0
 IsLongOnParallels answer g = (e : EdgeId) (n : ℕ) → e.0 < edges g → HasParallel g e.0 → answer e n → 2 ≤ n
-
--- y has the height of each vertex under the weights, and c the column of each dual node
-pub record AreNumbers (g : SidesValue) (w y c : ℕ → ℕ) : Type 0 where
-  pub height : (v : ℕ) → v < g.vertices → IsHeight g w v (y v)
-  pub column : (f : ℕ) → f ≤ g.t_star → IsColumn g f (c f)

@@ -20,9 +20,10 @@ use Rattle.st_shape.specs.declared.picture.Form.TheVariants.{Polyline}
 use Rattle.st_shape.specs.declared.point.Point.{Point}
 use Rattle.st_shape.specs.Rules.{Drawing}
 use Rattle.st_sides.specs.Sides.{SidesValue, edge_count, edge_tail, edge_head, face_left, left_of, right_of}
+use Rattle.st_number.specs.Numbers.{AreNumbers}
 use Rattle.st_picture.specs.Items.{at, drawing}
 use Rattle.st_picture.specs.Naming.{vertex_name}
-use Rattle.draw_poly.specs.Numbers.{AreLong, AreNumbers}
+use Rattle.draw_poly.specs.Numbers.{AreLong}
 
 -- where the vertex v stands
 abbrev pub dot_place : (ℕ → ℕ) → (ℕ → ℕ) → ℕ → Point

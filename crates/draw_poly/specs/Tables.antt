@@ -8,8 +8,9 @@
 use Rattle.std.specs.Prelude.{ℕ, ℤ, pos, ◌≡◌, ◌+◌, ◌-◌, ◌<◌, ◌≤◌, List, length, slice_get, Some}
 use Rattle.st_ids.specs.declared.ids.EdgeId.{EdgeId}
 use Rattle.st_sides.specs.Sides.{SidesValue, edge_count, left_of, right_of}
+use Rattle.st_number.specs.Numbers.{AreNumbers}
 use Rattle.st_picture.specs.Bars.{number_at, HasNaturals}
-use Rattle.draw_poly.specs.Numbers.{AreLong, AreNumbers}
+use Rattle.draw_poly.specs.Numbers.{AreLong}
 use Rattle.draw_poly.specs.Tracks.{AreTracks}
 
 -- a column from that of the left of v to the one before that of its right, which the closure may answer for these two

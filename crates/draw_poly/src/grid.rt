@@ -13,6 +13,7 @@ use crate::placer::Placer;
 use crate::places::places;
 use st_ids::{EdgeId, FaceId, IdVec, NoMemory, VertexId};
 use st_number::{Weights, columns, heights};
+use st_picture::number_in;
 use st_shape::Point;
 use st_sides::{Sides, laws};
 use st_test::StGraph;
@@ -63,7 +64,7 @@ impl Grid {
         requires natural { pos 0 ≤ℤ slice_index_or self.now.heights v.0 (pos 0) }
         ensures { result ≡ pos (number_at self.now.heights v.0) }
     {
-        *self.heights.get(v)
+        number_in(self.heights.items(), v.0)
     }
 
     /// The column of the node.
@@ -72,7 +73,7 @@ impl Grid {
         requires natural { pos 0 ≤ℤ slice_index_or self.now.columns f.0 (pos 0) }
         ensures { result ≡ pos (number_at self.now.columns f.0) }
     {
-        *self.columns.get(f)
+        number_in(self.columns.items(), f.0)
     }
 
     /// The column in which the vertex stands.
@@ -81,7 +82,7 @@ impl Grid {
         requires natural { pos 0 ≤ℤ slice_index_or self.now.places v.0 (pos 0) }
         ensures { result ≡ pos (number_at self.now.places v.0) }
     {
-        *self.places.get(v)
+        number_in(self.places.items(), v.0)
     }
 
     /// Where the vertex stands.

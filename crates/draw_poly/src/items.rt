@@ -10,7 +10,7 @@ ghost use Rattle.st_sides.specs.Sides.{edge_count};
 
 use crate::grid::Grid;
 use st_ids::{EdgeId, Names, NoMemory, VertexId};
-use st_picture::push_labels;
+use st_picture::{push_each, push_labels};
 use st_shape::{Form, Item, Picture, Point, Points};
 use st_sides::{Sides, laws};
 use std::alloc::Global;
@@ -78,10 +78,9 @@ fn push_dots(
     requires room { length picture.old.items + sides.now.vertices < 2 ^ 31 }
     ensures { OnOk result (picture.new ≡ record picture.old { items = picture.old.items ++ each (dot names.now (number_at grid.now.places) (number_at grid.now.heights)) sides.now.vertices }) }
 {
-    for v in 0..sides.vertices() {
-        picture.push(dot(sides, grid, names, VertexId(v)))?;
-    }
-    Ok(())
+    push_each(picture, sides.vertices(), |v| {
+        dot(sides, grid, names, VertexId(v))
+    })
 }
 
 /// Adds the line of each edge.
@@ -98,10 +97,9 @@ fn push_lines(
     requires room { length picture.old.items + edge_count sides.now < 2 ^ 31 }
     ensures { OnOk result (picture.new ≡ record picture.old { items = picture.old.items ++ each (line sides.now names.now (bent sides.now (number_at grid.now.heights) (number_at grid.now.columns) (number_at grid.now.places))) (edge_count sides.now) }) }
 {
-    for e in 0..sides.edges() {
-        picture.push(bent(alloc, sides, grid, names, EdgeId(e)))?;
-    }
-    Ok(())
+    push_each(picture, sides.edges(), |e| {
+        bent(alloc, sides, grid, names, EdgeId(e))
+    })
 }
 
 /// The picture of dots and lines of these tables.
