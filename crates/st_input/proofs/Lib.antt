@@ -1,6 +1,7 @@
 pub mod PairLemmas
 pub mod NameLemmas
 pub mod FitLemmas
+pub mod PathLemmas
 pub mod Fills
 pub mod BuildLemmas
 pub mod LawLemmas

@@ -3,6 +3,7 @@ use Rattle.std.specs.Prelude.{◌≡◌, ℕ, ℤ, All, List, Option, map, lengt
 use Rattle.st_ids.specs.Graph.{Graph}
 use Rattle.st_ids.specs.declared.ends.Dart.{Dart}
 use Rattle.st_ids.specs.declared.names.Names.{Names}
+use Rattle.st_input.specs.EdgeNames.{known_names}
 use Rattle.st_input.specs.InputGraph.{InputGraph}
 use Rattle.st_input.specs.Faults.{node_names, edge_names, ends_in, written_in}
 use Rattle.st_input.specs.Orders.{IsWithin}
@@ -22,9 +23,10 @@ tabled graph names orders outer paths = record {
   paths = paths;
 }
 
--- the ends, the written orders and the outer end of what a pair `graph` says
+-- the names, the ends, the written orders and the outer end of what a pair `graph` says
 pub record IsFound (p : Parts) (f : Found) : Type 0 where
   pub names : f.by_name ≡ node_names p.nodes
+  pub edge_index : known_names f.edge_names ≡ edge_names p.edges
   pub ends : f.ends ≡ ends_in (node_names p.nodes) p.edges
   pub size : length f.ends ≡ length p.edges
   pub within : All (IsWithin (length p.nodes)) f.ends

@@ -5,6 +5,7 @@ pub mod Names
 pub mod Faults
 pub mod EdgeNames
 pub mod Orders
+pub mod Paths
 pub mod InputGraph
 pub mod Embedding
 pub mod FirstFault

@@ -92,7 +92,7 @@ fn position_of(count: u32, name: i64) -> Option<u32>
 
 /// The edge with a name.
 #[tactic(auto, using(crate::proofs::NameLemmas::positions_length, crate::proofs::NameLemmas::position_found), unfolding(crate::specs::EdgeNames::known_names))]
-fn edge_of(names: &EdgeNames, name: i64) -> Option<u32>
+pub(crate) fn edge_of(names: &EdgeNames, name: i64) -> Option<u32>
     requires { length (known_names names.now) < 2 ^ 32 }
     ensures number { result ≡ number_of (known_names names.now) name }
     ensures within { IfSome result (λ n. n < length (known_names names.now)) }

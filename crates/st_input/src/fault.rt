@@ -60,3 +60,25 @@ impl From<NoMemory> for ShapeFault {
         ShapeFault::NoMemory
     }
 }
+
+/// Why the written paths can't be told by their edges.
+#[derive(Clone, Copy, Debug, PartialEq, Eq, Error)]
+pub enum PathNameFault {
+    /// A path, by its position, has a name that no edge has.
+    #[error("{path} names unknown edge {name}")]
+    UnknownEdge { path: u32, name: i64 },
+    /// Memory ran out.
+    #[error("no memory")]
+    NoMemory,
+}
+
+impl From<NoMemory> for PathNameFault {
+    ghost use Rattle.std.specs.Prelude.{◌≡◌};
+    ghost use Rattle.st_input.specs.declared.fault.PathNameFault.TheVariants.{NoMemory as no_memory};
+
+    ghost from_gives = { λ _ f. f ≡ no_memory };
+
+    fn from(_e: NoMemory) -> PathNameFault {
+        PathNameFault::NoMemory
+    }
+}

@@ -2,6 +2,7 @@
 ghost use Rattle.gml_core.specs.Sound.{IsSound};
 ghost use Rattle.gml_core.specs.Trees.{listed};
 ghost use Rattle.gml_core.specs.Views.{entry_view, view};
+ghost use Rattle.st_input.specs.EdgeNames.{known_names};
 ghost use Rattle.st_input.specs.Embedding.{embedded_graph, embedded_in};
 ghost use Rattle.st_input.specs.Faults.{FailsBy};
 ghost use Rattle.st_input.specs.Found.{IsFound, tabled};
@@ -9,22 +10,24 @@ ghost use Rattle.st_input.specs.FirstFault.{parts_fault, shape_fault, text_fault
 ghost use Rattle.st_input.specs.InputGraph.{AreLabels, AreListed, IsConsistent};
 ghost use Rattle.st_input.specs.Names.{AreDifferent};
 ghost use Rattle.st_input.specs.Parts.{parts_in};
+ghost use Rattle.st_input.specs.Paths.{ArePathsThere, PathsFailBy, path_name_fault, paths_by};
 ghost use Rattle.st_input.specs.Used.{HasSoundList, datum_of};
 ghost use Rattle.std.specs.Prelude.{◌≡◌, ◌≢◌, ◌<◌, ◌≤◌, ◌*◌, ◌^◌, ℕ, length, option_map, slice_get, None, Some, IfOk, IfSome, MatchOption, OnOk};
 
-use crate::edges::{edges_by_name, orders_of};
-use crate::fault::ShapeFault;
+use crate::edges::{EdgeNames, edges_by_name, orders_of};
+use crate::fault::{PathNameFault, ShapeFault};
 use crate::kinds::bad_kind_of;
 use crate::names::NameSet;
 use crate::nodes::{ends_of, nodes_by_name};
 use crate::orders::whole_orders;
 use crate::outer::{limits, outer_of};
 use crate::parts::{Parts, parts_of, second_at};
+use crate::paths::paths_of;
 use crate::tables::{edge_table, graph_of, vertex_table};
 use crate::used::first_pair;
 use gml_core::{Pair, Tree};
 use sqlite_items::Items;
-use st_ids::{Dart, Digraph, EdgeList, IdVec, Names, NoMemory, VertexId};
+use st_ids::{Dart, Digraph, EdgeList, IdVec, Names, NoMemory, PathList, VertexId};
 use std::alloc::Global;
 use std::marker::Model;
 
@@ -38,6 +41,7 @@ pub struct GraphSpec {
     outer: Option<Dart>,
     paths: Items<Items<i64>>,
     by_name: NameSet,
+    edge_names: EdgeNames,
 }
 
 impl Model for GraphSpec {
@@ -104,12 +108,27 @@ impl GraphSpec {
             None => None,
         }
     }
+
+    /// The written paths in file order, each as the list of its edges.
+    ///
+    /// Errors: `UnknownEdge`, where a name is that of no edge: the first path that has one, and in it the first;
+    /// `NoMemory`.
+    /// Cost: O(length of all paths) on average.
+    pub fn paths(&self, alloc: Global) -> Result<PathList, PathNameFault>
+        ensures paths { IfOk result (λ ps. ps ≡ paths_by self.now.edge_names self.now.paths) }
+        ensures there { IfOk result (ArePathsThere self.now.graph) }
+        ensures known { OnOk result (path_name_fault self.now.edge_names self.now.paths ≡ None) }
+        ensures fault { PathsFailBy (path_name_fault self.now.edge_names self.now.paths) result }
+    {
+        paths_of(alloc, &self.edge_names, self.paths.as_slice())
+    }
 }
 
 /// What the names of a graph lead to: the ends of its edges, its written orders, and its outer end.
 #[derive(Drop)]
 struct Found {
     by_name: NameSet,
+    edge_names: EdgeNames,
     ends: Items<(u32, u32)>,
     orders: IdVec<VertexId, EdgeList>,
     outer: Option<Dart>,
@@ -144,6 +163,7 @@ fn look_up(
     )?;
     Ok(Found {
         by_name,
+        edge_names,
         ends,
         orders,
         outer,
@@ -157,8 +177,11 @@ fn assemble(
     outer: Option<Dart>,
     paths: Items<Items<i64>>,
     by_name: NameSet,
+    edge_names: EdgeNames,
 ) -> GraphSpec
     requires index { by_name ≡ names.vertex }
+    requires edge_index { known_names edge_names ≡ names.edge }
+    requires few_paths { length paths < 2 ^ 31 }
     requires consistent { IsConsistent (tabled graph names orders outer paths) }
     ensures { result ≡ tabled graph names orders outer paths }
 {
@@ -169,6 +192,7 @@ fn assemble(
         outer,
         paths,
         by_name,
+        edge_names,
     }
 }
 
@@ -177,6 +201,7 @@ fn build(alloc: Global, parts: Parts, found: Found) -> Result<GraphSpec, NoMemor
     requires consistent { IsConsistent (embedded_in parts) }
     requires vertices { length parts.nodes < 2 ^ 30 }
     requires edges { length parts.edges < 2 ^ 30 }
+    requires paths { length parts.paths < 2 ^ 31 }
     ensures { IfOk result (λ s. s ≡ embedded_in parts) }
 {
     let Parts {
@@ -188,6 +213,7 @@ fn build(alloc: Global, parts: Parts, found: Found) -> Result<GraphSpec, NoMemor
     } = parts;
     let Found {
         by_name,
+        edge_names,
         ends,
         orders,
         outer,
@@ -199,7 +225,7 @@ fn build(alloc: Global, parts: Parts, found: Found) -> Result<GraphSpec, NoMemor
         edge: edge_table(alloc, edges.as_slice())?,
         label: labels,
     };
-    Ok(assemble(graph, names, orders, outer, paths, by_name))
+    Ok(assemble(graph, names, orders, outer, paths, by_name, edge_names))
 }
 
 fn spec_of(

@@ -11,10 +11,11 @@ mod nodes;
 mod orders;
 mod outer;
 mod parts;
+mod paths;
 mod tables;
 mod used;
 
-pub use fault::ShapeFault;
+pub use fault::{PathNameFault, ShapeFault};
 pub use graph::{GraphSpec, read_graph};
 
 #[cfg(test)]
@@ -150,6 +151,52 @@ mod tests {
             (true, true, true)
         );
         assert_eq!(rt; (has_orders(&spec), has_labels(&spec)), (true, true));
+        Ok(())
+    }
+
+    /// What is said of the paths of a text: their edges, or their fault.
+    fn paths_said(alloc: Global, text: &[u8]) -> Result<String, Fail> {
+        let spec = read(alloc, text)?;
+        match spec.paths(alloc) {
+            Ok(paths) => Ok(format!(in alloc; "{paths:?}")?),
+            Err(fault) => Ok(format!(in alloc; "{fault}")?),
+        }
+    }
+
+    #[test]
+    fn paths_are_told_by_their_edges(rt: HostRuntime) -> Result<(), Fail> {
+        let alloc = rt.alloc();
+        let rows: [(&[u8], &str); 7] = [
+            (b"graph [ ]", "PathList { paths: [] }"),
+            (
+                b"graph [ path [ ] ]",
+                "PathList { paths: [EdgeList { edges: [] }] }",
+            ),
+            (
+                b"graph [ node [ id 1 ] node [ id 2 ] edge [ source 1 target 2 ] edge [ source 1 target 2 ] edge [ source 1 target 2 ] path [ e 2 e 0 ] path [ e 9 ] ]",
+                "1 names unknown edge 9",
+            ),
+            (
+                b"graph [ node [ id 1 ] node [ id 2 ] edge [ source 1 target 2 ] edge [ source 1 target 2 ] path [ e 1 e 0 ] path [ e 1 ] ]",
+                "PathList { paths: [EdgeList { edges: [EdgeId(1), EdgeId(0)] }, EdgeList { edges: [EdgeId(1)] }] }",
+            ),
+            (
+                b"graph [ node [ id 1 ] node [ id 2 ] edge [ id 7 source 1 target 2 ] edge [ id -4 source 1 target 2 ] path [ e -4 ] ]",
+                "PathList { paths: [EdgeList { edges: [EdgeId(1)] }] }",
+            ),
+            (
+                b"graph [ node [ id 1 ] node [ id 2 ] edge [ id 7 source 1 target 2 ] path [ ] path [ e 7 e 0 e 3 ] ]",
+                "1 names unknown edge 0",
+            ),
+            (
+                b"graph [ node [ id 1 ] node [ id 2 ] edge [ id 7 source 1 target 2 ] edge [ source 1 target 2 ] path [ e 7 ] path [ e -1 ] ]",
+                "0 names unknown edge 7",
+            ),
+        ];
+        for (text, expected) in rows {
+            let said = paths_said(alloc, text)?;
+            assert_eq!(rt; said.as_str(), expected);
+        }
         Ok(())
     }
 }

@@ -313,7 +313,8 @@ fn edges_of(alloc: Global, tree: &Tree) -> Result<Items<Edge>, NoMemory>
 
 fn paths_of(alloc: Global, tree: &Tree) -> Result<Items<Items<i64>>, NoMemory>
     requires { IsSound (view tree.now) }
-    ensures { IfOk result (λ ps. ps ≡ each (codes "path") path_in (listed (view tree.now))) }
+    ensures paths { IfOk result (λ ps. ps ≡ each (codes "path") path_in (listed (view tree.now))) }
+    ensures few { IfOk result (λ ps. length ps < 2 ^ 31) }
 {
     let mut out = Items::new(alloc);
     for i in 0..tree.len() {
@@ -330,6 +331,7 @@ fn parts_at(alloc: Global, tree: &Tree) -> Result<Parts, NoMemory>
     ensures parts { IfOk result (λ p. p ≡ parts_say (listed (view tree.now))) }
     ensures nodes { IfOk result (λ p. length p.nodes < 2 ^ 31) }
     ensures edges { IfOk result (λ p. length p.edges < 2 ^ 31) }
+    ensures paths { IfOk result (λ p. length p.paths < 2 ^ 31) }
 {
     let outer = match first_pair(tree, b"outer") {
         Some(pair) => Some(outer_of(pair)),
@@ -354,6 +356,7 @@ pub(crate) fn parts_of(alloc: Global, pair: &Pair) -> Result<Parts, NoMemory>
     ensures parts { IfOk result (λ p. p ≡ parts_in (entry_view pair.now)) }
     ensures nodes { IfOk result (λ p. length p.nodes < 2 ^ 31) }
     ensures edges { IfOk result (λ p. length p.edges < 2 ^ 31) }
+    ensures paths { IfOk result (λ p. length p.paths < 2 ^ 31) }
 {
     match list_of(pair) {
         Some(tree) => parts_at(alloc, tree),
