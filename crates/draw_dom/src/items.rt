@@ -12,7 +12,7 @@ ghost use Rattle.st_sides.specs.Sides.{edge_count};
 
 use crate::table::Compact;
 use st_ids::{EdgeId, FaceId, IdVec, Names, NoMemory, VertexId};
-use st_picture::push_labels;
+use st_picture::{push_each, push_labels};
 use st_shape::{Form, Item, Picture, Point, Points};
 use st_sides::{Sides, laws};
 use std::alloc::Global;
@@ -99,10 +99,11 @@ fn push_dots(
     requires room { length picture.old.items + sides.now.vertices < 2 ^ 31 }
     ensures { OnOk result (picture.new ≡ record picture.old { items = picture.old.items ++ each (dot names.now (point_of points.now)) sides.now.vertices }) }
 {
-    for v in 0..sides.vertices() {
-        picture.push(dot(points, names, VertexId(v)))?;
-    }
-    Ok(())
+    push_each(
+        picture,
+        sides.vertices(),
+        |v| dot(points, names, VertexId(v)),
+    )
 }
 
 /// Adds the line of each edge.
@@ -120,10 +121,9 @@ fn push_lines(
     requires room { length picture.old.items + edge_count sides.now < 2 ^ 31 }
     ensures { OnOk result (picture.new ≡ record picture.old { items = picture.old.items ++ each (line sides.now names.now (dummied sides.now (dummy_at (dummy_numbers dummies.now)) (point_of points.now))) (edge_count sides.now) }) }
 {
-    for e in 0..sides.edges() {
-        picture.push(line(alloc, sides, points, dummies, names, EdgeId(e)))?;
-    }
-    Ok(())
+    push_each(picture, sides.edges(), |e| {
+        line(alloc, sides, points, dummies, names, EdgeId(e))
+    })
 }
 
 /// The picture of dots and lines at these points.
