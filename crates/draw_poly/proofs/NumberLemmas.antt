@@ -1,7 +1,7 @@
 -- Heights, columns and places keep lines apart, so the polyline picture is drawn right.
 --   tracks                       heights, columns and places between the ends of bars keep lines apart
 --   polyline_drawn               so the polyline picture is drawn right
-use Rattle.std.proofs.Common.{ℕ, ◌≡◌, ◌<◌, ◌≤◌, ◌+◌, ◌-◌, sym, subst, arith}
+use Rattle.std.proofs.Common.{ℕ, ◌<◌, ◌≤◌, ◌+◌, ◌-◌, sym, subst, arith}
 use Rattle.st_ids.specs.declared.names.Names.{Names}
 use Rattle.st_shape.specs.Rules.{Drawing}
 use Rattle.st_sides.specs.Objects.{vertex}

@@ -2,7 +2,6 @@
 --   bar_of, box_of               the items that have these numbers
 use Rattle.std.proofs.Common.{ℕ, ◌≡◌, ℤ, pos}
 use Rattle.st_ids.specs.declared.names.Names.{Names}
-use Rattle.st_shape.specs.declared.item.Item.{Item}
 use Rattle.st_shape.specs.declared.item.Item.TheVariants.{Bar, Rect}
 use Rattle.st_shape.specs.declared.point.Point.{Point}
 use Rattle.st_sides.specs.Sides.{SidesValue, edge_tail, edge_head, face_left, face_right, left_of, right_of}

@@ -1,5 +1,5 @@
 -- Heights and columns of a graph grow, so the visibility picture is drawn right.
-use Rattle.std.proofs.Common.{ℕ, ◌≡◌, sym, subst, arith}
+use Rattle.std.proofs.Common.{ℕ, sym, subst, arith}
 use Rattle.st_ids.specs.declared.ids.EdgeId.{EdgeId}
 use Rattle.st_ids.specs.declared.names.Names.{Names}
 use Rattle.st_shape.specs.declared.picture.Form.TheVariants.{Visibility}

@@ -5,7 +5,7 @@ use Rattle.st_ids.specs.declared.names.Names.{Names}
 use Rattle.st_ids.specs.Walks.{Walk, stay, step}
 use Rattle.st_ids.proofs.WalkLemmas.{on_walk}
 use Rattle.st_shape.specs.declared.item.Item.{Item}
-use Rattle.st_shape.specs.declared.item.Item.TheVariants.{Bar, Line, Rect, Face}
+use Rattle.st_shape.specs.declared.item.Item.TheVariants.{Bar, Rect, Face}
 use Rattle.st_shape.specs.declared.picture.Form.{Form}
 use Rattle.st_shape.specs.declared.picture.Form.TheVariants.{Visibility, Tessellation}
 use Rattle.st_shape.specs.declared.point.Point.{Point}
@@ -15,7 +15,7 @@ use Rattle.st_sides.specs.Sides.{SidesValue, edge_count, edge_tail, edge_head, f
 use Rattle.st_sides.proofs.ExclusiveLemmas.{across}
 use Rattle.st_number.proofs.NumberLemmas.{numbers_law}
 use Rattle.st_picture.specs.Bars.{bar, bar_start, upright, bars}
-use Rattle.st_picture.specs.Items.{at, each, labels, line}
+use Rattle.st_picture.specs.Items.{at, each, labels}
 use Rattle.st_picture.specs.Naming.{vertex_name, edge_name}
 use Rattle.st_picture.proofs.JoinLemmas.{bars_same, drawing_same}
 use Rattle.st_picture.proofs.PlaceLemmas.{each_same, labels_same}
