@@ -20,7 +20,7 @@ use Rattle.st_ids.specs.Walks.{Arcs, Walk, stay, step}
 use Rattle.st_shape.specs.Rules.{Drawing, IsPrintable}
 use Rattle.st_number.specs.Weighing.{WeightsValue, IsLawful}
 use Rattle.st_number.specs.Greatest.{weigh, IsGreatest}
-use Rattle.draw_vis.specs.Numbers.{AreNumbers}
+use Rattle.st_number.specs.Numbers.{AreNumbers}
 use Rattle.draw_poly.specs.Placing.{AreEnds}
 use Rattle.draw_poly.specs.Polyline.{IsPolylines, IsPolylineBy}
 use Rattle.st_sides.specs.Sides.{IsSides, left_of, right_of}
@@ -81,7 +81,7 @@ same_greatest w w' same a v n h = record {
   most = λ es r. subst (λ z. z ≤ n) (same_weigh w w' same r) (h.most es r);
 }
 
-same_numbers : (x : SidesValue) (w w' y c : ℕ → ℕ) → ((e : ℕ) → e < edge_count x → w e ≡ w' e) → AreNumbers x w y c → AreNumbers x w' y c
+pub same_numbers : (x : SidesValue) (w w' y c : ℕ → ℕ) → ((e : ℕ) → e < edge_count x → w e ≡ w' e) → AreNumbers x w y c → AreNumbers x w' y c
 same_numbers x w w' y c same h = record { height = λ v l. same_greatest w w' same x.source v (y v) (h.height v l); column = h.column }
 
 -- the picture under answers that are all 1

@@ -9,13 +9,13 @@ use Rattle.st_sides.specs.Sides.{SidesValue, IsSides, edge_count, edge_tail, edg
 use Rattle.st_sides.specs.SidesOf.{IsSidesOf}
 use Rattle.st_sides.proofs.ReaderLemmas.{left_within, right_within}
 use Rattle.st_number.specs.Parallel.{IsParallel, HasParallel}
-use Rattle.draw_poly.specs.Numbers.{AreLong, AreNumbers}
+use Rattle.st_number.proofs.NumberLemmas.{numbers_law}
+use Rattle.draw_poly.specs.Numbers.{AreLong}
 use Rattle.draw_poly.specs.Polyline.{IsPolylines}
-use Rattle.draw_poly.proofs.NumberLemmas.{same_columns}
 use Rattle.draw_poly.proofs.SameLemmas.{one_placed}
 use Rattle.st_words.specs.declared.words.Spot.{Spot}
 use Rattle.stdraw_core.specs.Drawing.{AreRows, place_of, IsPlacedPolyline}
-use Rattle.stdraw_core.proofs.DrawingLemmas.{same_greatest}
+use Rattle.stdraw_core.proofs.DrawingLemmas.{same_numbers}
 
 -- ---- whether an edge has a parallel
 is_parallel : (g : Embedded) (e d : ℕ) → IsParallel g e d ⊎ (IsParallel g e d → ⊥)
@@ -82,7 +82,7 @@ module _ (g : Embedded) (s t outer : ℕ) (x : SidesValue) (of : IsSidesOf g s t
   under w w' same p N d h = record {
     y = h.y;
     c = h.c;
-    numbers = record { height = λ v l. same_greatest w w' same x.source v (h.y v) (h.numbers.height v l); column = h.numbers.column };
+    numbers = same_numbers x w w' h.y h.c same h.numbers;
     from = h.from;
     to = h.to;
     is = h.is;
@@ -91,7 +91,7 @@ module _ (g : Embedded) (s t outer : ℕ) (x : SidesValue) (of : IsSidesOf g s t
   pub one_polyline : (spot : Spot) (N : Names) (d d' : Drawing) → IsPlacedPolyline spot g x N d → IsPlacedPolyline spot g x N d' → d ≡ d'
   one_polyline spot N d d' A B =
       let same : (e : ℕ) → e < edge_count x → B.weight e ≡ A.weight e = λ e l. one_rows g B.weight A.weight B.rows A.rows e (there e l) in
-      let column : (f : ℕ) → f ≤ x.t_star → A.picture.c f ≡ B.picture.c f = λ f l. same_columns x S A.picture.c B.picture.c A.picture.numbers.column B.picture.numbers.column f l in
+      let column : (f : ℕ) → f ≤ x.t_star → A.picture.c f ≡ B.picture.c f = λ f l. (numbers_law x S).same_columns A.picture.c B.picture.c A.picture.numbers.column B.picture.numbers.column f l in
       one_placed x S A.weight A.column B.column
       (λ v l. A.placed v l
       ∙ ap (λ z. place_of spot z (A.picture.c (right_of x v) - 1)) (column (left_of x v) (left_within x S v l))
