@@ -9,10 +9,11 @@ use Rattle.st_ids.proofs.WalkLemmas.{no_loop, reach_refl}
 use Rattle.st_shape.specs.declared.picture.Form.TheVariants.{Constrained}
 use Rattle.st_shape.specs.Rules.{Drawing}
 use Rattle.st_sides.specs.Sides.{SidesValue, IsSides, edge_count, edge_tail, edge_head, face_left, face_right, ins, outs}
-use Rattle.st_number.specs.Greatest.{IsGreatest, IsHeight}
-use Rattle.st_number.proofs.GreatestLemmas.{heights_law}
+use Rattle.st_number.specs.Greatest.{IsGreatest}
+use Rattle.st_number.specs.Numbers.{AreWeights}
+use Rattle.st_number.proofs.NumberLemmas.{numbers_law}
 use Rattle.st_picture.specs.Drawn.{IsDrawn}
-use Rattle.st_picture.specs.Growing.{GrowsUp, GrowsRight, HasLines}
+use Rattle.st_picture.specs.Growing.{GrowsRight, HasLines}
 use Rattle.st_picture.specs.Naming.{AreNames}
 use Rattle.st_picture.proofs.BarLemmas.{bars_law}
 use Rattle.draw_align.specs.Alignment.{Paths, path_count, path_of, AreValid, AreCompleted, node, alignment, alignment_weight}
@@ -95,14 +96,8 @@ module _ (g : SidesValue) (S : IsSides g) (ps : List (List ℕ)) (sound : AreSou
         let k : line_of g P x e < x (face_right g e) = from_path e a in
         omega arith
 
-pub heights_grow : (g : SidesValue) → IsSides g → (w : ℕ → ℕ) → ((e : ℕ) → e < edge_count g → 1 ≤ w e) → (y : ℕ → ℕ) → ((v : ℕ) → v < g.vertices → IsHeight g w v (y v)) → GrowsUp g y
-heights_grow g S w W y H e a =
-    let one : 1 ≤ w e = W e a in
-    let h : y (edge_tail g e) + w e ≤ y (edge_head g e) = ((heights_law g S).heights w).grows e a (y (edge_tail g e)) (y (edge_head g e)) (H (edge_tail g e) (S.tail_in e a)) (H (edge_head g e) (S.head_in e a)) in
-    omega arith
-
-pub constrained_drawn : (g : SidesValue) → IsSides g → (ps : List (List ℕ)) → AreSound g ps (length ps) → (w : ℕ → ℕ) → ((e : ℕ) → e < edge_count g → 1 ≤ w e) → (N : Names) → AreNames g N
+pub constrained_drawn : (g : SidesValue) → IsSides g → (ps : List (List ℕ)) → AreSound g ps (length ps) → (w : ℕ → ℕ) → AreWeights g w → (N : Names) → AreNames g N
     → (d : Drawing) → IsConstrained g w ps N d → IsDrawn g d
 constrained_drawn g S ps sound w W N A d D =
-    subst (IsDrawn g) (sym D.is) (bars_law g S D.y D.x (line_of g D.paths D.x) (heights_grow g S w W D.y D.heights) (columns_grow g S ps sound D.paths D.completed D.x D.columns)
+    subst (IsDrawn g) (sym D.is) (bars_law g S D.y D.x (line_of g D.paths D.x) ((numbers_law g S).heights_grow w D.y W D.heights) (columns_grow g S ps sound D.paths D.completed D.x D.columns)
     (lines_between g S ps sound D.paths D.completed D.x D.columns) N A Constrained (λ q. cc q) (λ q. cc q))

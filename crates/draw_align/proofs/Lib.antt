@@ -11,4 +11,3 @@ pub mod PictureLemmas
 pub mod SameLemmas
 pub mod SomeLemmas
 pub mod StepLemmas
-pub mod TableLemmas

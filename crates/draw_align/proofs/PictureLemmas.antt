@@ -1,57 +1,47 @@
 -- Tables of heights, columns and lines are those of the constrained picture.
 --   aligned_of        the edges of each listed path stand in one column
 --   tables_of, frame_of, picture_by   the tables that the calls give
-use Rattle.std.proofs.Common.{ℕ, List, [], ◌∷◌, ◌++◌, ◌≡◌, ◌<◌, ◌≤◌, ◌+◌, ◌-◌, ◌*◌, inl, inr, ℤ, pos, ◌≤ℤ◌, nat_abs, map, arith, refl, sym, ap, ◌∙◌, subst, length, get_or, Some}
+use Rattle.std.proofs.Common.{ℕ, List, [], ◌∷◌, ◌≡◌, ◌<◌, ◌≤◌, ◌+◌, ◌-◌, ◌*◌, ℤ, pos, ◌≤ℤ◌, nat_abs, map, arith, refl, sym, ap, ◌∙◌, subst, length, get_or, Some}
 use Rattle.std.specs.Prelude.{slice_get}
 use Rattle.std.proofs.Math.ListN.{get_or-map}
 use Rattle.std.proofs.lemmas.Int.{ints}
 use Rattle.std.proofs.lemmas.List.{length-map}
 use Rattle.std.proofs.lemmas.Nat.{mul-le}
-use Rattle.std.proofs.lemmas.Option.{get_or_from_slice_get}
 use Rattle.st_ids.specs.declared.ids.EdgeId.{EdgeId}
 use Rattle.st_ids.specs.declared.names.Names.{Names}
 use Rattle.st_ids.specs.Lists.{In}
 use Rattle.st_map.specs.Embedded.{Embedded, edges}
-use Rattle.st_shape.specs.declared.item.Item.{Item}
 use Rattle.st_shape.specs.declared.item.Item.TheVariants.{Line}
-use Rattle.st_shape.specs.declared.picture.Form.{Form}
 use Rattle.st_shape.specs.declared.picture.Form.TheVariants.{Constrained}
-use Rattle.st_shape.specs.declared.point.Point.{Point}
 use Rattle.st_shape.specs.Rules.{Drawing}
 use Rattle.st_sides.specs.SidesOf.{IsSidesOf}
-use Rattle.st_sides.specs.Sides.{SidesValue, edge_count, edge_tail, edge_head, face_left, face_right, right_path, primal, IsSides}
+use Rattle.st_sides.specs.Sides.{SidesValue, edge_count, edge_tail, edge_head, face_left, face_right, IsSides}
 use Rattle.st_number.specs.Greatest.{IsGreatest, IsHeight}
 use Rattle.st_number.proofs.BoundLemmas.{bounds_law, to_sides}
 use Rattle.st_number.specs.Heights.{AreHeights, AreColumns}
-use Rattle.st_number.proofs.GreatestLemmas.{last_arc, poles_differ, heights_law}
-use Rattle.st_ids.proofs.WalkLemmas.{walk_from, walk_to}
+use Rattle.st_number.specs.Numbers.{AreWeights, GivesHeights}
+use Rattle.st_number.proofs.NumberLemmas.{numbers_law}
 use Rattle.draw_align.specs.Crossing.{IsRanked}
-use Rattle.st_picture.specs.Bars.{number_at, bars, bar, bar_start, upright, AreTables, HasFrame, HasNaturals}
+use Rattle.st_picture.specs.Bars.{number_at, bars, bar, bar_start, upright, AreTables, HasFrame}
 use Rattle.st_picture.specs.Growing.{HasLines}
-use Rattle.st_picture.specs.Items.{at, each, line, labels}
+use Rattle.st_picture.specs.Items.{at}
 use Rattle.st_picture.specs.Naming.{vertex_name, edge_name}
-use Rattle.st_picture.proofs.PlaceLemmas.{each_same, line_is}
+use Rattle.st_picture.proofs.JoinLemmas.{bars_same}
+use Rattle.st_picture.proofs.PlaceLemmas.{line_is}
+use Rattle.st_picture.proofs.SpanLemmas.{sink_in}
+use Rattle.st_picture.proofs.TableLemmas.{Has, number_of, naturals}
 use Rattle.draw_align.specs.Alignment.{path_count, path_of, node, alignment, alignment_weight}
 use Rattle.draw_align.specs.Built.{AreNodeColumns, AreLines}
 use Rattle.draw_align.specs.Constrained.{line_of, IsConstrained, IsConstrainedBy, IsAligned, ConstrainedLaw}
 use Rattle.draw_align.specs.Listed.{path_at, AreSound}
 use Rattle.draw_align.specs.Faults.{AreThere}
-use Rattle.draw_align.proofs.ConstrainedLemmas.{heights_grow, columns_grow, lines_between, constrained_drawn}
+use Rattle.draw_align.proofs.ConstrainedLemmas.{columns_grow, lines_between, constrained_drawn}
 
 abs_is : (k : ℕ) → nat_abs (pos k) ≡ k
 abs_is k = refl
 
 natural : (z : ℤ) (k : ℕ) → z ≡ pos k → pos 0 ≤ℤ z
 natural z k q = omega (arith, ints)
-
-abbrev picture_of : Form → Point → List Item → Drawing
-picture_of form frame items = record { form = form; frame = frame; items = items }
-
-bars_of_lines : (g : SidesValue) (N : Names) (form : Form) (y c k k' : ℕ → ℕ) → ((e : ℕ) → e < edge_count g → k e ≡ k' e) → bars g N form y c k ≡ bars g N form y c k'
-bars_of_lines g N form y c k k' h =
-    ap (λ z. picture_of form (at (c g.t_star - 1) (y g.sink)) (each (bar g N y c) g.vertices ++ (z ++ labels N (bar_start g y c) g.vertices)))
-    (each_same (line g N (upright g y k)) (line g N (upright g y k')) (edge_count g)
-    (λ e a. ap (λ z. Line (edge_name N e) (vertex_name N (edge_tail g e)) (vertex_name N (edge_head g e)) (at z (y (edge_tail g e)) ∷ at z (y (edge_head g e)) ∷ [])) (h e a)))
 
 -- ---- the edges of a listed path
 pub aligned_of : (g : SidesValue) (ps : List (List ℕ)) → ((p e : ℕ) → p < length ps → In e (path_at ps p) → e < edge_count g) → (w : ℕ → ℕ) (N : Names) (d : Drawing) → IsConstrained g w ps N d → IsAligned g ps d
@@ -77,20 +67,16 @@ unfolding edge_count
 same_edges E s t outer g Q = ap length Q.ends
 
 module _ (E : Embedded) (s t outer : ℕ) (g : SidesValue) (Q : IsSidesOf E s t outer g) (S : IsSides g) (answer : EdgeId → ℕ → Type 0) (most : ℕ) (hs : List ℤ) (H : AreHeights answer E s most hs) where
+  heights : Has hs g.vertices H.height
+  heights = record { size = H.size ∙ sym Q.vertices; at = λ v l. H.at v (subst (λ z. v < z) Q.vertices l) }
+
   height_is : (v : ℕ) → v < g.vertices → number_at hs v ≡ H.height v
-  unfolding number_at
-  height_is v l = ap nat_abs (get_or_from_slice_get hs v (pos (H.height v)) (pos 0) (H.at v (subst (λ z. v < z) Q.vertices l))) ∙ abs_is (H.height v)
+  height_is v l = number_of hs g.vertices H.height heights v l
 
-  heights_natural : HasNaturals hs g.vertices
-  heights_natural = record {
-    size = (let q : length hs ≡ E.vertices = H.size in let r : g.vertices ≡ E.vertices = Q.vertices in omega arith);
-    natural = λ v l. natural (get_or hs v (pos 0)) (H.height v) (get_or_from_slice_get hs v (pos (H.height v)) (pos 0) (H.at v (subst (λ z. v < z) Q.vertices l)));
-  }
-
-  weights : (e : ℕ) → e < edge_count g → 1 ≤ H.weight e
+  weights : AreWeights g H.weight
   weights e a = H.from_one e (subst (λ z. e < z) (same_edges E s t outer g Q) a)
 
-  are_heights : (v : ℕ) → v < g.vertices → IsHeight g H.weight v (number_at hs v)
+  are_heights : GivesHeights g H.weight (number_at hs)
   are_heights v l = subst (IsHeight g H.weight v) (sym (height_is v l)) (to_sides E s t outer g Q H.weight v (H.height v) (H.greatest v (subst (λ z. v < z) Q.vertices l)))
 
   module _ (ps : List (List ℕ)) (sound : AreSound g ps (length ps)) (homes : List ℕ) (next : ℕ) (cs : List ℕ) (C : AreNodeColumns g ps homes next cs) (table : List ℤ) (T : table ≡ map (λ n. pos n) cs)
@@ -114,7 +100,7 @@ module _ (E : Embedded) (s t outer : ℕ) (g : SidesValue) (Q : IsSidesOf E s t 
 
     pub tables_of : AreTables g hs table lines
     tables_of = record {
-      heights_are = heights_natural;
+      heights_are = naturals hs g.vertices H.height heights;
       columns_are = record {
         size = (let q : length table ≡ length cs = ap length T ∙ length-map cs (λ n. pos n) in let r : length cs ≡ g.t_star + 1 + next = C.size in omega arith);
         natural = λ f l. natural (get_or table f (pos 0)) (get_or cs f 0) (column_is f);
@@ -123,7 +109,7 @@ module _ (E : Embedded) (s t outer : ℕ) (g : SidesValue) (Q : IsSidesOf E s t 
         size = (let q : length lines ≡ edge_count g = L.size in omega arith);
         natural = λ e a. natural (get_or lines e (pos 0)) (get_or cs (node g (get_or homes e 0)) 0) (L.each e a ∙ column_is (node g (get_or homes e 0)));
       };
-      up = heights_grow g S H.weight weights (number_at hs) are_heights;
+      up = (numbers_law g S).heights_grow H.weight (number_at hs) weights are_heights;
       rightward = columns_grow g S ps sound C.paths.paths C.paths.completed (number_at table) columns_are;
       between = record {
         after_left = λ e a. subst (λ z. number_at table (face_left g e) ≤ z) (sym (line_number e a)) (between.after_left e a);
@@ -135,17 +121,11 @@ module _ (E : Embedded) (s t outer : ℕ) (g : SidesValue) (Q : IsSidesOf E s t 
     frame_of high wide = record {
       wide = (let a : get_or cs g.t_star 0 ≤ edge_count g = C.few g.t_star (omega arith) in let b : number_at table g.t_star ≡ get_or cs g.t_star 0 = number_is g.t_star in omega arith);
       high =
-          let l : g.sink < g.vertices = sink_in in
+          let l : g.sink < g.vertices = sink_in g S in
           let top : number_at hs g.sink ≤ (g.vertices - 1) * most = (bounds_law g S).heights H.weight most (λ e a. H.to_most e (subst (λ z. e < z) (same_edges E s t outer g Q) a)) g.sink (number_at hs g.sink) (are_heights g.sink l) in
           let less : (g.vertices - 1) * most ≤ g.vertices * most = mul-le (g.vertices - 1) most g.vertices most (omega arith) (omega arith) in
           omega arith;
     }
-      where
-        sink_in : g.sink < g.vertices
-        sink_in = elim (last_arc (primal g) g.source g.sink (right_path g 0) (walk_from S.low_s (walk_to S.high_s (S.right_path_walk 0 S.has_t)))) [
-          | inl q ↦ absurd (poles_differ g S q)
-          | inr A ↦ subst (λ z. z < g.vertices) A.ends (S.head_in A.arc A.is_arc)
-        ]
 
     pub picture_by : (N : Names) (d : Drawing) → d ≡ bars g N Constrained (number_at hs) (number_at table) (number_at lines) → IsConstrainedBy answer g ps N d
     picture_by N d q = record {
@@ -159,27 +139,24 @@ module _ (E : Embedded) (s t outer : ℕ) (g : SidesValue) (Q : IsSidesOf E s t 
         heights = are_heights;
         completed = C.paths.completed;
         columns = columns_are;
-        is = q ∙ bars_of_lines g N Constrained (number_at hs) (number_at table) (number_at lines) (line_of g C.paths.paths (number_at table)) line_number;
+        is = q ∙ bars_same g S N Constrained (number_at hs) (number_at table) (number_at lines) (number_at hs) (number_at table) (line_of g C.paths.paths (number_at table)) (λ v l. refl) (λ f l. refl) line_number;
       };
     }
 
 -- ---- the columns of the dual
 module _ (g : SidesValue) (S : IsSides g) (cs : List ℤ) (C : AreColumns g cs) where
-  rank_is : (f : ℕ) → f ≤ g.t_star → number_at cs f ≡ C.column f
-  unfolding number_at
-  rank_is f l = ap nat_abs (get_or_from_slice_get cs f (pos (C.column f)) (pos 0) (C.at f l)) ∙ abs_is (C.column f)
+  has : Has cs (g.t_star + 1) C.column
+  has = record { size = C.size; at = λ f l. C.at f (omega arith) }
 
   pub ranked : IsRanked g cs
   ranked = record {
-    columns_are = record {
-      size = (let q : length cs ≡ g.t_star + 1 = C.size in omega arith);
-      natural = λ f l. natural (get_or cs f (pos 0)) (C.column f) (get_or_from_slice_get cs f (pos (C.column f)) (pos 0) (C.at f (omega arith)));
-    };
+    columns_are = naturals cs (g.t_star + 1) C.column has;
     rightward = λ e a.
         let l : face_left g e < g.t_star = S.left_before e a in
-        let h : C.column (face_left g e) + 1 ≤ C.column (face_right g e) = (heights_law g S).columns.grows e a (C.column (face_left g e)) (C.column (face_right g e)) (C.greatest (face_left g e) (omega arith)) (C.greatest (face_right g e) (S.right_within e a)) in
-        let x : number_at cs (face_left g e) ≡ C.column (face_left g e) = rank_is (face_left g e) (omega arith) in
-        let y : number_at cs (face_right g e) ≡ C.column (face_right g e) = rank_is (face_right g e) (S.right_within e a) in
+        let r : face_right g e ≤ g.t_star = S.right_within e a in
+        let h : C.column (face_left g e) < C.column (face_right g e) = (numbers_law g S).columns_grow C.column C.greatest e a in
+        let x : number_at cs (face_left g e) ≡ C.column (face_left g e) = number_of cs (g.t_star + 1) C.column has (face_left g e) (omega arith) in
+        let y : number_at cs (face_right g e) ≡ C.column (face_right g e) = number_of cs (g.t_star + 1) C.column has (face_right g e) (omega arith) in
         omega arith;
   }
 

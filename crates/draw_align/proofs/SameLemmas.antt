@@ -12,7 +12,7 @@ use Rattle.st_shape.specs.declared.picture.Form.TheVariants.{Constrained}
 use Rattle.st_shape.specs.Rules.{Drawing}
 use Rattle.st_sides.specs.Sides.{SidesValue, IsSides, edge_count, face_left, face_right}
 use Rattle.st_number.specs.Greatest.{weigh, IsGreatest}
-use Rattle.st_number.proofs.GreatestLemmas.{heights_law}
+use Rattle.st_number.proofs.NumberLemmas.{numbers_law}
 use Rattle.st_picture.proofs.JoinLemmas.{bars_same}
 use Rattle.draw_align.specs.Alignment.{Paths, path_count, path_of, AreCompleted, node, alignment, alignment_weight}
 use Rattle.draw_align.specs.Constrained.{IsConstrained, line_of}
@@ -123,7 +123,7 @@ one_picture g S ps w N d d' C D =
     let homes : (e : ℕ) → e < edge_count g → path_of P e ≡ path_of Q e = one_home g ps P Q C.completed D.completed in
     let back : (e : ℕ) → e < edge_count g → path_of Q e ≡ path_of P e = λ e a. sym (homes e a) in
     let count : path_count P ≡ path_count Q = one_count g ps P Q C.completed D.completed in
-    let heights : (v : ℕ) → v < g.vertices → C.y v ≡ D.y v = λ v i. ((heights_law g S).heights w).one v (C.y v) (D.y v) (C.heights v i) (D.heights v i) in
+    let heights : (v : ℕ) → v < g.vertices → C.y v ≡ D.y v = (numbers_law g S).same_heights w C.y D.y C.heights D.heights in
     let columns : (f : ℕ) → f < g.t_star + 1 + path_count P → C.x f ≡ D.x f = λ f l.
     let G = C.columns f l in
     let H = D.columns f (omega arith) in

@@ -11,9 +11,9 @@ use Rattle.st_ids.specs.declared.names.Names.{Names}
 use Rattle.st_ids.specs.Walks.{Arcs}
 use Rattle.st_shape.specs.declared.picture.Form.TheVariants.{Constrained}
 use Rattle.st_shape.specs.Rules.{Drawing}
-use Rattle.st_sides.specs.Sides.{SidesValue, IsSides, edge_count, primal}
+use Rattle.st_sides.specs.Sides.{SidesValue, IsSides, edge_count}
 use Rattle.st_number.specs.Greatest.{IsGreatest, GreatestLaw}
-use Rattle.st_number.proofs.GreatestLemmas.{heights_law}
+use Rattle.st_number.proofs.NumberLemmas.{numbers_law}
 use Rattle.st_picture.specs.Bars.{bars}
 use Rattle.draw_align.specs.declared.steps.Step.{Step}
 use Rattle.draw_align.specs.Alignment.{path_count, alignment, alignment_weight}
@@ -114,15 +114,14 @@ module _ (g : SidesValue) (ps : List (List ℕ)) (A : AreThere g ps) where
       let P = E.paths in
       let n = g.t_star + 1 + path_count P in
       let G = (alignment_law g S P (valid g S ps sound P E.completed)).greatest in
-      let Y = (heights_law g S).heights w in
-      let y : ℕ → ℕ = λ v. pick (primal g) g.vertices w g.source Y v (cases_lt v g.vertices) in
+      let M = (numbers_law g S).some w in
       let x : ℕ → ℕ = λ f. pick (alignment g P) n (alignment_weight g) 0 G f (cases_lt f n) in (
-        bars g N Constrained y x (line_of g P x),
+        bars g N Constrained M.0 x (line_of g P x),
         record {
-          y = y;
+          y = M.0;
           paths = P;
           x = x;
-          heights = λ v l. picked (primal g) g.vertices w g.source Y v (cases_lt v g.vertices) l;
+          heights = M.2.height;
           completed = E.completed;
           columns = λ f l. picked (alignment g P) n (alignment_weight g) 0 G f (cases_lt f n) l;
           is = refl;

@@ -5,7 +5,7 @@
 --   IsConstrained g w ps N d   d is the constrained visibility picture of the paths under the weights w
 --   IsAligned g ps d       the edges of each listed path stand in one column
 --   ConstrainedLaw g ps    each such picture is drawn right, and its paths are aligned
-use Rattle.std.specs.Prelude.{ℕ, ℤ, List, [], ◌∷◌, ◌≡◌, ◌<◌, ◌≤◌, ◌+◌, Some, length, slice_get}
+use Rattle.std.specs.Prelude.{ℕ, ℤ, List, [], ◌∷◌, ◌≡◌, ◌<◌, ◌+◌, Some, length, slice_get}
 use Rattle.st_ids.specs.declared.ids.EdgeId.{EdgeId}
 use Rattle.st_ids.specs.declared.names.Names.{Names}
 use Rattle.st_ids.specs.Lists.{In}
@@ -13,7 +13,8 @@ use Rattle.st_shape.specs.declared.item.Item.TheVariants.{Line}
 use Rattle.st_shape.specs.declared.picture.Form.TheVariants.{Constrained}
 use Rattle.st_shape.specs.Rules.{Drawing}
 use Rattle.st_sides.specs.Sides.{SidesValue, edge_count}
-use Rattle.st_number.specs.Greatest.{IsGreatest, IsHeight}
+use Rattle.st_number.specs.Greatest.{IsGreatest}
+use Rattle.st_number.specs.Numbers.{AreWeights, GivesHeights}
 use Rattle.st_picture.specs.Bars.{bars}
 use Rattle.st_picture.specs.Drawn.{IsDrawn}
 use Rattle.st_picture.specs.Naming.{AreNames}
@@ -30,7 +31,7 @@ pub record IsConstrained (g : SidesValue) (w : ℕ → ℕ) (ps : List (List ℕ
   pub y : ℕ → ℕ
   pub paths : Paths
   pub x : ℕ → ℕ
-  pub heights : (v : ℕ) → v < g.vertices → IsHeight g w v (y v)
+  pub heights : GivesHeights g w y
   pub completed : AreCompleted g ps paths
   pub columns : (f : ℕ) → f < g.t_star + 1 + path_count paths → IsGreatest (alignment g paths) (alignment_weight g) 0 f (x f)
   pub is : d ≡ bars g N Constrained y x (line_of g paths x)
@@ -39,7 +40,7 @@ pub record IsConstrained (g : SidesValue) (w : ℕ → ℕ) (ps : List (List ℕ
 pub record IsConstrainedBy (answer : EdgeId → ℕ → Type 0) (g : SidesValue) (ps : List (List ℕ)) (N : Names) (d : Drawing) : Type 0 where
   pub weight : ℕ → ℕ
   pub taken : (e : ℕ) → e < edge_count g → answer (record { 0 = e }) (weight e)
-  pub from_one : (e : ℕ) → e < edge_count g → 1 ≤ weight e
+  pub from_one : AreWeights g weight
   pub picture : IsConstrained g weight ps N d
 
 -- the line of e is upright in the column x
@@ -62,5 +63,5 @@ IsAligned g ps d = (p : ℕ) → p < length ps → HasColumn g ps d p
 
 -- Each picture of sound paths is drawn right, and its paths are aligned, for all weights from 1.
 pub record ConstrainedLaw (g : SidesValue) (ps : List (List ℕ)) : Type 0 where
-  pub drawn : (w : ℕ → ℕ) → ((e : ℕ) → e < edge_count g → 1 ≤ w e) → (N : Names) → AreNames g N → (d : Drawing) → IsConstrained g w ps N d → IsDrawn g d
+  pub drawn : (w : ℕ → ℕ) → AreWeights g w → (N : Names) → AreNames g N → (d : Drawing) → IsConstrained g w ps N d → IsDrawn g d
   pub aligned : (w : ℕ → ℕ) (N : Names) (d : Drawing) → IsConstrained g w ps N d → IsAligned g ps d

@@ -1,15 +1,13 @@
 //! The alignment graph, whose greatest weights of walks are the columns.
-ghost use Rattle.std.specs.Prelude.{◌≡◌, ◌+◌, ◌<◌, ◌≤◌, ◌^◌, ℕ, length, slice_index, IfOk, OnOk};
+ghost use Rattle.std.specs.Prelude.{◌≡◌, ◌+◌, ◌<◌, ◌≤◌, ◌^◌, length, slice_index, IfOk, OnOk};
 ghost use Rattle.draw_align.specs.Built.{AreArcWeights, AreNodeColumns, HasHomes, IsBuilt, arc_from, arc_to};
 ghost use Rattle.draw_align.specs.Homes.{HasPaths};
 ghost use Rattle.draw_align.specs.Listed.{AreSound};
-ghost use Rattle.st_ids.specs.EdgeNumbers.{numbers};
-ghost use Rattle.st_ids.specs.Graph.{HasEnds};
-ghost use Rattle.st_number.specs.Passing.{IsEdgeOrder, IsPassTable};
 ghost use Rattle.st_sides.specs.Sides.{edge_count};
 
 use crate::homes::Homes;
 use st_ids::{Digraph, EdgeId, IdVec, NoMemory, PathList, VertexId};
+use st_number::pass;
 use st_sides::{Sides, laws};
 use st_test::topological_order;
 use std::alloc::Global;
@@ -84,34 +82,6 @@ fn weights_of(alloc: Global, sides: &Sides) -> Result<IdVec<EdgeId, u32>, NoMemo
         weights.push(if a < sides.edges() { 0u32 } else { 1u32 })?;
     }
     Ok(weights)
-}
-
-/// What the edges in order bring to each vertex.
-fn pass(
-    alloc: Global,
-    graph: &Digraph,
-    taken: &IdVec<EdgeId, u32>,
-    most: u32,
-    order: &[EdgeId],
-) -> Result<IdVec<VertexId, u64>, NoMemory>
-    requires ends { HasEnds graph.now }
-    requires few { length graph.now.ends < 2 ^ 30 }
-    requires size { length taken.now ≡ length graph.now.ends }
-    requires weights { (e : ℕ) → e < length taken.now → slice_index taken.now e ≤ most }
-    requires small { most ≤ 1000 }
-    requires order { IsEdgeOrder graph.now.ends (numbers order.now) }
-    ensures { IfOk result (IsPassTable graph.now.vertices graph.now.ends (slice_index taken.now)) }
-{
-    let mut sums = IdVec::with_len(alloc, graph.vertices(), 0u64)?;
-    for k in 0..order.len() {
-        let e = order[k];
-        let (tail, head) = (graph.tail(e), graph.head(e));
-        let reached = *sums.get(tail) + u64::from(*taken.get(e));
-        if *sums.get(head) < reached {
-            sums.set(head, reached);
-        }
-    }
-    Ok(sums)
 }
 
 /// The column of each node of the alignment graph: those of the dual, and then the paths.

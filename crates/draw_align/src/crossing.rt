@@ -12,6 +12,7 @@ ghost use Rattle.st_sides.specs.Sides.{edge_count, edge_head, ins};
 
 use crate::steps::{Noted, passing, path_in};
 use st_ids::{EdgeId, FaceId, IdVec, PathList, VertexId};
+use st_picture::number_in;
 use st_sides::{Sides, laws};
 
 /// The column of the node on the left of the edge.
@@ -21,7 +22,7 @@ pub(crate) fn rank(sides: &Sides, columns: &IdVec<FaceId, i64>, e: EdgeId) -> i6
     ensures { result ≡ pos (rank_of sides.now columns.now e.0) }
 {
     laws::local(sides);
-    *columns.get(sides.face_left(e))
+    number_in(columns.items(), sides.face_left(e).0)
 }
 
 /// Whether the edges x and other_x lie in the other order than y and other_y.

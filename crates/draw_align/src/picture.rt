@@ -1,5 +1,5 @@
 //! Constrained visibility: vertices as level bars, edges as upright lines, the edges of each listed path in one column.
-ghost use Rattle.std.specs.Prelude.{◌≡◌, ◌+◌, ◌*◌, ◌<◌, ◌≤◌, ◌^◌, ℕ, pos, length, map, slice_index, slice_index_or, IfOk, IfErr, OnOk};
+ghost use Rattle.std.specs.Prelude.{◌≡◌, ◌+◌, ◌*◌, ◌<◌, ◌≤◌, pos, length, slice_index_or, IfOk, IfErr, OnOk};
 ghost use Rattle.draw_align.specs.Built.{AreLines, HasHomes};
 ghost use Rattle.draw_align.specs.Constrained.{IsAligned, IsConstrainedBy};
 ghost use Rattle.draw_align.specs.Faults.{AreThere, IsPathFault};
@@ -16,26 +16,12 @@ use crate::faults::test_paths;
 use crate::homes::{Homes, homes_of};
 use crate::path_fault::PathFault;
 use st_ids::{EdgeId, IdVec, Names, NoMemory, PathList, VertexId};
-use st_number::{Weights, columns, heights};
+use st_number::{Weights, columns, heights, signed};
 use st_picture::bars_and_lines;
 use st_shape::{Form, Picture};
 use st_sides::{Sides, laws};
 use st_test::StGraph;
 use std::alloc::Global;
-
-/// The numbers as signed ones, which coordinates are.
-fn signed(alloc: Global, sums: &IdVec<VertexId, u64>) -> Result<IdVec<VertexId, i64>, NoMemory>
-    requires room { length sums.now ≤ 2 ^ 31 }
-    requires few { (k : ℕ) → k < length sums.now → slice_index sums.now k < 2 ^ 63 }
-    ensures { IfOk result (λ v. v ≡ map (λ n. pos n) sums.now) }
-{
-    let mut list = IdVec::new(alloc);
-    let items = sums.items();
-    for k in 0..items.len() {
-        list.push(items[k] as i64)?;
-    }
-    Ok(list)
-}
 
 /// The column of the node.
 fn column_at(columns: &IdVec<VertexId, i64>, v: VertexId) -> i64
