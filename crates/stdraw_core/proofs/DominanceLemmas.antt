@@ -1,7 +1,8 @@
--- A file has one dominance picture, and it is right.
-use Rattle.std.proofs.Common.{◌≡◌, ◌<◌, ℕ, List, Option, refl, sym, ap, subst}
+-- A file has one dominance picture with one list of points, and the picture is right.
+use Rattle.std.proofs.Common.{◌≡◌, ◌<◌, ℕ, suc, List, [], ◌∷◌, length, slice_get, Option, Some, refl, sym, ap, ◌∙◌, subst, arith}
 use Rattle.st_ids.specs.declared.names.Names.{Names}
 use Rattle.st_map.specs.Embedded.{Embedded}
+use Rattle.st_shape.specs.declared.point.Point.{Point}
 use Rattle.st_shape.specs.Rules.{Drawing}
 use Rattle.st_sides.specs.Sides.{SidesValue, IsSides}
 use Rattle.st_sides.specs.SidesOf.{IsSidesOf}
@@ -15,11 +16,12 @@ use Rattle.st_reduce.specs.ReducedSides.{last_of}
 use Rattle.st_reduce.proofs.OneLemmas.{one_reduced_law}
 use Rattle.st_reduce.proofs.ReducedLemmas.{reduced_law}
 use Rattle.st_reduce.proofs.ReducedSidesLemmas.{reduced_sides_law}
+use Rattle.st_order.specs.Numbers.{HasNumbers}
 use Rattle.draw_dom.specs.Laws.{HasPictures}
 use Rattle.draw_dom.specs.Pictures.{IsDominancePicture, ShowsReaching}
 use Rattle.draw_dom.specs.Shown.{IsDominanceOf}
 use Rattle.draw_dom.proofs.LaidLemmas.{none_there}
-use Rattle.draw_dom.proofs.PictureLemmas.{pictures_law}
+use Rattle.draw_dom.proofs.PictureLemmas.{pictures_law, same_points}
 use Rattle.stdraw_core.specs.Drawing.{IsReducedPicture}
 
 module _ (st : StValue) (x : SidesValue) (planar : IsPlanarSt st.map.graph st.source st.sink st.outer) (of : IsSidesOf st.map.graph st.source st.sink st.outer x) (is : IsSides x) where
@@ -49,3 +51,29 @@ module _ (st : StValue) (x : SidesValue) (planar : IsPlanarSt st.map.graph st.so
       let moved : IsDominancePicture x h.is.sides (dummy_at k.is.dummies) N d' = subst (λ (z : SidesValue). IsDominancePicture x z (dummy_at k.is.dummies) N d') (sym same) (picture N d' k) in
       let moved' : IsDominancePicture x h.is.sides (dummy_at h.is.dummies) N d' = subst (λ (z : List (Option ℕ)). IsDominancePicture x h.is.sides (dummy_at z) N d') (sym one.0) moved in
       (pictures N d h).one N d d' (picture N d h) moved'
+
+-- ---- the points
+-- lists of one length that are the same at each place are one
+same_list : {X : Type 0} (ps qs : List X) → length ps ≡ length qs → ((i : ℕ) → i < length ps → slice_get ps i ≡ slice_get qs i) → ps ≡ qs
+same_list [] [] n each = refl
+same_list [] (q ∷ qs) n each = absurd (omega arith)
+same_list (p ∷ ps) [] n each = absurd (omega arith)
+same_list {X} (p ∷ ps) (q ∷ qs) n each =
+    let first : Some p ≡ Some q = each 0 (omega arith) in
+    let same : p ≡ q = cc in
+    ap (λ (z : X). z ∷ ps) same ∙ ap (λ (zs : List X). q ∷ zs) (same_list ps qs (omega arith) (λ i l. each (suc i) (omega arith)))
+
+-- whatever pictures they were found with
+pub one_points : (st : StValue) → IsPlanarSt st.map.graph st.source st.sink st.outer → (x x' : SidesValue) (N : Names) (d d' : Drawing) (ps qs : List Point)
+    → IsDominanceOf st.map.graph st.source st.sink st.outer x N d ps → IsDominanceOf st.map.graph st.source st.sink st.outer x' N d' qs → ps ≡ qs
+one_points st planar x x' N d d' ps qs h k =
+    let one = one_reduced_law st.map.graph h.dummies k.dummies h.reduced k.reduced h.is_reduced k.is_reduced in
+    let red = (reduced_law st.map.graph st.source st.sink st.outer planar).1 h.dummies h.reduced h.is_reduced in
+    let there : IsSidesOf h.reduced st.source st.sink st.outer k.sides = subst (λ (z : Embedded). IsSidesOf z st.source st.sink st.outer k.sides) (sym one.1) k.are_sides in
+    let same : h.sides ≡ k.sides = one_value_law h.reduced st.source st.sink st.outer h.sides k.sides red.keeps.planar h.are_sides h.sizes there k.sizes in
+    let numbers : HasNumbers h.sides k.x k.y k.at_x k.at_y = subst (λ (z : SidesValue). HasNumbers z k.x k.y k.at_x k.at_y) (sym same) k.numbers in
+    let r : IsSides h.sides = meaning_law h.reduced st.source st.sink st.outer h.sides red.keeps.planar h.are_sides in
+    same_list ps qs (h.points_are.size ∙ sym k.points_are.size) (λ v l.
+    let old : v < st.map.graph.vertices = omega (arith, h.points_are.size) in
+    let there : v < h.sides.vertices = omega (arith, h.are_sides.vertices, red.more) in
+    h.points_are.each v old ∙ ap Some (same_points h.sides r h.x h.y h.at_x h.at_y k.x k.y k.at_x k.at_y h.numbers numbers v there) ∙ sym (k.points_are.each v old))

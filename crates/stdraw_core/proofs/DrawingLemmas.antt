@@ -1,7 +1,7 @@
 -- What a drawing needs of an accepted graph, and what follows for its output.
-use Rattle.std.proofs.Common.{◌≡◌, ℕ, zero, suc, ◌+◌, ◌-◌, ◌<◌, ◌≤◌, List, [], ◌∷◌, length, get_or, slice_get, Option, Some, None, ℤ, pos, nat_abs, refl, sym, ap, ◌∙◌, subst, arith}
-use Rattle.std.specs.Prelude.{slice_index_or, Result, Ok, Err, IfOk}
-use Rattle.std.specs.List.{All, AllByRecursion}
+use Rattle.std.proofs.Common.{◌≡◌, ℕ, suc, ◌+◌, ◌-◌, ◌<◌, ◌≤◌, List, [], ◌∷◌, length, get_or, Option, Some, None, ℤ, pos, nat_abs, refl, sym, ap, ◌∙◌, subst, arith}
+use Rattle.std.specs.Prelude.{Result, Ok, Err, IfOk}
+use Rattle.std.specs.List.{AllByRecursion}
 use Rattle.std.proofs.lemmas.List.Elements.{All-get_or}
 use Rattle.std.proofs.lemmas.Int.{ints}
 use Rattle.std.proofs.lemmas.Option.{slice_get-get_or}
@@ -22,14 +22,14 @@ use Rattle.st_number.specs.Weighing.{WeightsValue, IsLawful}
 use Rattle.st_number.specs.Greatest.{weigh, IsGreatest}
 use Rattle.st_number.specs.Numbers.{AreNumbers}
 use Rattle.draw_poly.specs.Placing.{AreEnds}
-use Rattle.draw_poly.specs.Polyline.{IsPolylines, IsPolylineBy}
+use Rattle.draw_poly.specs.Polyline.{IsPolylineBy}
 use Rattle.st_sides.specs.Sides.{IsSides, left_of, right_of}
 use Rattle.st_sides.proofs.ReaderLemmas.{right_within}
 use Rattle.st_number.proofs.BoundLemmas.{bounds_law}
 use Rattle.st_words.specs.declared.words.Spot.{Spot}
 use Rattle.draw_vis.specs.Visibility.{IsVisibility, IsVisibilityBy}
 use Rattle.draw_vis.specs.Tessellation.{IsTessellation, IsTessellationBy}
-use Rattle.stdraw_core.specs.Drawing.{file_names, one_each, place_of, AnswersRows, AnswersPlaces, IsPlacedPolyline}
+use Rattle.stdraw_core.specs.Drawing.{file_names, one_each, AnswersRows, AnswersPlaces, IsPlacedPolyline}
 
 mixed : (x : StValue) (r : Refusal) → (let a : Result StValue Refusal = Ok x in a) ≡ Err r → ⊥
 mixed x r h = cc

@@ -1,14 +1,11 @@
--- A drawing is written exactly where the file has a planar st-graph, and it is a right one.
-use Rattle.std.proofs.Common.{◌≡◌, ◌≢◌, ℕ, ◌<◌, ◌≤◌, inl, inr, List, Some, None, refl, sym, ap, ◌∙◌, subst, arith}
+-- A drawing is written exactly where the file has a planar st-graph, and it is a right one; so it is with the lines of a query.
+use Rattle.std.proofs.Common.{◌≡◌, ◌≢◌, ℕ, ℤ, List, Some, None, refl, sym, ap, ◌∙◌, subst, arith}
 use Rattle.std.specs.Prelude.{Result, Ok, Err, IfSome}
 use Rattle.std.specs.declared.option.Option.{Option}
-use Rattle.gml_core.specs.Trees.{Entries}
 use Rattle.st_input.specs.InputGraph.{InputGraph, IsConsistent}
-use Rattle.st_input.proofs.LawLemmas.{fits_together}
 use Rattle.st_port.specs.Faults.{Rose}
-use Rattle.st_port.specs.Streams.{SourceState, SinkState, Gains}
+use Rattle.st_port.specs.Streams.{SourceState, SinkState}
 use Rattle.st_shape.specs.Rules.{Drawing}
-use Rattle.st_map.specs.Embedded.{Embedded}
 use Rattle.st_sides.specs.Sides.{SidesValue, IsSides}
 use Rattle.st_sides.specs.SidesOf.{IsSidesOf}
 use Rattle.st_sides.proofs.MeaningLemmas.{meaning_law}
@@ -23,7 +20,7 @@ use Rattle.draw_poly.proofs.NumberLemmas.{polyline_drawn}
 use Rattle.stdraw_core.proofs.PolylineLemmas.{long}
 use Rattle.stdraw_core.proofs.DominanceLemmas.{right_dominance}
 use Rattle.st_words.specs.declared.words.Command.{Command}
-use Rattle.st_words.specs.declared.words.Command.TheVariants.{Draw}
+use Rattle.st_words.specs.declared.words.Command.TheVariants.{Draw, Query}
 use Rattle.st_words.specs.declared.words.DrawForm.{DrawForm}
 use Rattle.st_words.specs.declared.words.DrawForm.TheVariants.{Visibility, Tessellation, Polyline, Dominance}
 use Rattle.st_report.specs.declared.stop.Refusal.{Refusal}
@@ -31,15 +28,16 @@ use Rattle.st_report.specs.declared.stop.Status.{Status}
 use Rattle.st_report.specs.declared.stop.Status.TheVariants as status
 use Rattle.stdraw_core.specs.Answer.{Asks, IsFew, IsTree, IsGraph, Answers, AnswersGraph, AnswersFile, IsAnswer}
 use Rattle.stdraw_core.specs.Drawing.{one_each, file_names, IsPictureOf, IsRightPicture, Draws, ShowsFile}
-use Rattle.stdraw_core.specs.Headline.{IsPlanarFile, IsDrawnFile, HeadlineFor, Headline}
-use Rattle.stdraw_core.specs.Run.{IsRefused, IsTold, IsDone, EndsBy}
+use Rattle.stdraw_core.specs.Headline.{IsPlanarFile, HeadlineFor, Headline, QueryHeadlineFor, QueryHeadline}
+use Rattle.stdraw_core.specs.Query.{names_of}
+use Rattle.stdraw_core.specs.Run.{IsTold, IsDone, EndsBy}
 use Rattle.stdraw_core.specs.Stages.{Then, refuses, goes_on, IsOne}
 use Rattle.stdraw_core.specs.Verdict.{IsAccepted}
 use Rattle.st_words.specs.Words.{IsCommand}
 use Rattle.stdraw_core.proofs.DrawingLemmas.{found, names_meet}
-use Rattle.stdraw_core.proofs.OneAnswer.{asks_one, few_one, tree_one, graph_one}
+use Rattle.stdraw_core.proofs.OneAnswer.{asks_one, few_one, tree_one, graph_one, consistent, query_err, known_unknown}
 use Rattle.stdraw_core.proofs.VerdictOne.{accepted_one}
-use Rattle.stdraw_core.proofs.StageLemmas.{same_ok, same_err, mixed}
+use Rattle.stdraw_core.proofs.StageLemmas.{same_ok, mixed}
 
 -- ---- a stage that has found its value
 -- what follows is what the next stage says of that value
@@ -57,36 +55,43 @@ value_found : {A B : Type 0} (first : Result A Refusal → Type 0) (next : A →
 value_found first next b (refuses r k e) = absurd (mixed b r e)
 value_found first next b (goes_on a k f) = record { value = a; is = k; goes = f }
 
--- ---- what was answered to the words of a drawing
-asked : (words : List (List ℕ)) (bytes : List ℕ) (form : DrawForm) → IsCommand words (Draw form) → (answer : Result (List ℕ) Refusal) → IsAnswer words bytes answer → AnswersFile (Draw form) bytes answer
-asked words bytes form is answer h = next_says (Asks words) (λ command. AnswersFile command bytes) (asks_one words) (Draw form) is answer h
+-- ---- what was answered to the words of a command
+-- the bytes that the source had left are those that were answered
+same_bytes : (left : Option (List ℕ)) (bytes told : List ℕ) → left ≡ Some bytes → IfSome left (λ z. z ≡ told) → bytes ≡ told
+same_bytes None bytes told e h = absurd (cc)
+same_bytes (Some z) bytes told e h = let same : z ≡ bytes = cc in sym same ∙ h
 
--- a planar file is not refused
-not_refused : (bytes : List ℕ) (form : DrawForm) (g : InputGraph) (st : StValue) → IsPlanarFile bytes g st → (one : IsOne (IsAccepted g)) → (r : Refusal) → AnswersFile (Draw form) bytes (Err r) → ⊥
-not_refused bytes form g st file one r h =
-    let a = next_says (IsFew bytes) (λ _. Then (IsTree bytes) (λ tree. Then (IsGraph tree) (AnswersGraph (Draw form)))) (few_one bytes) tt file.few (Err r) h in
-    let b = next_says (IsTree bytes) (λ tree. Then (IsGraph tree) (AnswersGraph (Draw form))) (tree_one bytes) file.tree file.text (Err r) a in
-    let c = next_says (IsGraph file.tree) (AnswersGraph (Draw form)) (graph_one file.tree) g file.graph (Err r) b in
-    next_says (IsAccepted g) (Answers (Draw form) g) one st file.planar (Err r) c
+pub asked : (command : Command) (words : List (List ℕ)) (left : Option (List ℕ)) (bytes told : List ℕ) → IsCommand words command → left ≡ Some bytes → IfSome left (λ z. z ≡ told)
+    → (answer : Result (List ℕ) Refusal) → IsAnswer words told answer → AnswersFile command bytes answer
+asked command words left bytes told is e f answer h =
+    subst (λ z. AnswersFile command z answer) (sym (same_bytes left bytes told e f)) (next_says (Asks words) (λ command. AnswersFile command told) (asks_one words) command is answer h)
+
+-- what is answered to a planar file is what the command answers about its graph
+pub planar_says : (command : Command) (bytes : List ℕ) (g : InputGraph) (st : StValue) → IsPlanarFile bytes g st → IsOne (IsAccepted g) → (answer : Result (List ℕ) Refusal) → AnswersFile command bytes answer → Answers command g st answer
+planar_says command bytes g st file one answer h =
+    let a = next_says (IsFew bytes) (λ _. Then (IsTree bytes) (λ tree. Then (IsGraph tree) (AnswersGraph command))) (few_one bytes) tt file.few answer h in
+    let b = next_says (IsTree bytes) (λ tree. Then (IsGraph tree) (AnswersGraph command)) (tree_one bytes) file.tree file.text answer a in
+    let c = next_says (IsGraph file.tree) (AnswersGraph command) (graph_one file.tree) g file.graph answer b in
+    next_says (IsAccepted g) (Answers command g) one st file.planar answer c
 
 -- an output is that of a planar file
-pub record IsOutputOf (form : DrawForm) (bytes out : List ℕ) : Type 0 where
+pub record IsOutputOf (command : Command) (bytes out : List ℕ) : Type 0 where
   pub g : InputGraph
   pub st : StValue
   pub file : IsPlanarFile bytes g st
-  pub draws : Draws form g st out
+  pub answers : Answers command g st (Ok out)
 
-output_of : (bytes : List ℕ) (form : DrawForm) (out : List ℕ) → AnswersFile (Draw form) bytes (Ok out) → IsOutputOf form bytes out
-output_of bytes form out h =
-    let a = value_found (IsFew bytes) (λ _. Then (IsTree bytes) (λ tree. Then (IsGraph tree) (AnswersGraph (Draw form)))) out h in
-    let b = value_found (IsTree bytes) (λ tree. Then (IsGraph tree) (AnswersGraph (Draw form))) out a.goes in
-    let c = value_found (IsGraph b.value) (AnswersGraph (Draw form)) out b.goes in
-    let d = value_found (IsAccepted c.value) (Answers (Draw form) c.value) out c.goes in
+pub output_of : (command : Command) (bytes out : List ℕ) → AnswersFile command bytes (Ok out) → IsOutputOf command bytes out
+output_of command bytes out h =
+    let a = value_found (IsFew bytes) (λ _. Then (IsTree bytes) (λ tree. Then (IsGraph tree) (AnswersGraph command))) out h in
+    let b = value_found (IsTree bytes) (λ tree. Then (IsGraph tree) (AnswersGraph command)) out a.goes in
+    let c = value_found (IsGraph b.value) (AnswersGraph command) out b.goes in
+    let d = value_found (IsAccepted c.value) (Answers command c.value) out c.goes in
     record {
       g = c.value;
       st = d.value;
       file = record { few = a.is; tree = b.value; text = b.is; graph = c.is; planar = d.is };
-      draws = d.goes;
+      answers = d.goes;
     }
 
 -- ---- the picture is right
@@ -98,7 +103,7 @@ right_picture Dominance st x planar of is N names d h = right_dominance st x pla
 
 shows_file : (bytes : List ℕ) (form : DrawForm) (g : InputGraph) (st : StValue) (out : List ℕ) → IsPlanarFile bytes g st → Draws form g st out → ShowsFile form g st out
 shows_file bytes form g st out file h =
-    let tables : IsConsistent g = fits_together file.tree 20000 60000 g (omega arith) (omega arith) file.graph.0 file.graph.1 in
+    let tables : IsConsistent g = consistent file.tree g file.graph in
     let is = found g st file.planar in
     let here : IsSides h.sides = meaning_law st.map.graph st.source st.sink st.outer h.sides is.planar h.are.sides in
     record {
@@ -108,61 +113,82 @@ shows_file bytes form g st out file h =
     }
 
 -- ---- the endings
--- the bytes that the source had left are those that were answered
-same_bytes : (left : Option (List ℕ)) (bytes told : List ℕ) → left ≡ Some bytes → IfSome left (λ z. z ≡ told) → bytes ≡ told
-same_bytes None bytes told e h = absurd (cc)
-same_bytes (Some z) bytes told e h = let same : z ≡ bytes = cc in sym same ∙ h
+-- where nothing outside has failed, the answer was written whole, or a refusal was told and nothing written
+module _ (words : List (List ℕ)) (src src' : SourceState) (out out' diag diag' : SinkState) (P : Status → Type 0)
+    (done : IsDone words src src' out out' → P status.Done)
+    (told : (s : Status) → s ≢ status.Done → out' ≡ out → IsTold words src src' diag diag' s → P s) where
+  pub ending : (s : Status) → EndsBy words src src' out out' diag diag' s → (s ≢ status.Done → s ≢ status.WriteFault → out' ≡ out)
+      → s ≢ status.NoMemory → ¬ Rose src.faults src'.faults → ¬ Rose out.faults out'.faults → P s
+  ending status.Done h u memory read written = done h
+  ending status.ReadFault h u memory read written = absurd (read h.0.rose)
+  ending status.WriteFault h u memory read written = absurd (written h.0.rose)
+  ending status.NoMemory h u memory read written = absurd (memory refl)
+  ending status.NotSt h u memory read written = told status.NotSt (λ e. cc) (u (λ e. cc) (λ e. cc)) h
+  ending status.Words h u memory read written = told status.Words (λ e. cc) (u (λ e. cc) (λ e. cc)) h
+  ending status.Gml h u memory read written = told status.Gml (λ e. cc) (u (λ e. cc) (λ e. cc)) h
+  ending status.Limit h u memory read written = told status.Limit (λ e. cc) (u (λ e. cc) (λ e. cc)) h
+  ending status.Path h u memory read written = told status.Path (λ e. cc) (u (λ e. cc) (λ e. cc)) h
+  ending status.UnknownVertex h u memory read written = told status.UnknownVertex (λ e. cc) (u (λ e. cc) (λ e. cc)) h
+  ending status.NotClean h u memory read written = told status.NotClean (λ e. cc) (u (λ e. cc) (λ e. cc)) h
+  ending status.Eps h u memory read written = told status.Eps (λ e. cc) (u (λ e. cc) (λ e. cc)) h
+  ending status.Edit h u memory read written = told status.Edit (λ e. cc) (u (λ e. cc) (λ e. cc)) h
+  ending status.NoOrientation h u memory read written = told status.NoOrientation (λ e. cc) (u (λ e. cc) (λ e. cc)) h
 
+-- ---- the words of a drawing
 module _ (same_poles : OnePolesAnswer) (words : List (List ℕ)) (src src' : SourceState) (out out' : SinkState) (form : DrawForm) (bytes : List ℕ)
     (is : IsCommand words (Draw form)) (left : src.left ≡ Some bytes) where
   drawn_whole : IsDone words src src' out out' → HeadlineFor form bytes out out' status.Done
   drawn_whole h =
-      let same : bytes ≡ h.ready.bytes = same_bytes src.left bytes h.ready.bytes left h.ready.told in
-      let answer : AnswersFile (Draw form) bytes (Ok h.text) = subst (λ z. AnswersFile (Draw form) z (Ok h.text)) (sym same) (asked words h.ready.bytes form is (Ok h.text) h.ready.answer) in
-      let o = output_of bytes form h.text answer in
+      let o = output_of (Draw form) bytes h.text (asked (Draw form) words src.left bytes h.ready.bytes is left h.ready.told (Ok h.text) h.ready.answer) in
       record {
         drawn = λ g st file. refl;
-        right = λ e. record { g = o.g; st = o.st; file = o.file; out = h.text; shows = shows_file bytes form o.g o.st h.text o.file o.draws; gains = h.gains };
+        right = λ e. record { g = o.g; st = o.st; file = o.file; out = h.text; shows = shows_file bytes form o.g o.st h.text o.file o.answers; gains = h.gains };
         nothing = λ n. absurd (n refl);
       }
 
-  refused : (diag diag' : SinkState) (s : Status) → s ≢ status.Done → (s ≢ status.Done → out' ≡ out) → IsTold words src src' diag diag' s → HeadlineFor form bytes out out' s
-  refused diag diag' s other untouched h =
+  refused : (diag diag' : SinkState) (s : Status) → s ≢ status.Done → out' ≡ out → IsTold words src src' diag diag' s → HeadlineFor form bytes out out' s
+  refused diag diag' s other before h =
       let r = h.refused in
-      let same : bytes ≡ r.bytes = same_bytes src.left bytes r.bytes left r.told in
-      let answer : AnswersFile (Draw form) bytes (Err h.refusal) = subst (λ z. AnswersFile (Draw form) z (Err h.refusal)) (sym same) (asked words r.bytes form is (Err h.refusal) r.answer) in
+      let answer = asked (Draw form) words src.left bytes r.bytes is left r.told (Err h.refusal) r.answer in
       record {
-        drawn = λ g st file. absurd (not_refused bytes form g st file (accepted_one same_poles g) h.refusal answer);
+        drawn = λ g st file. absurd (planar_says (Draw form) bytes g st file (accepted_one same_poles g) (Err h.refusal) answer);
         right = λ e. absurd (other e);
-        nothing = untouched;
+        nothing = λ n. before;
       }
 
 pub headline : OnePolesAnswer → (words : List (List ℕ)) (src src' : SourceState) (out out' diag diag' : SinkState) (s : Status)
     → EndsBy words src src' out out' diag diag' s → (s ≢ status.Done → s ≢ status.WriteFault → out' ≡ out) → Headline words src src' out out' s
-headline same words src src' out out' diag diag' status.Done h u form bytes is left memory read written = drawn_whole same words src src' out out' form bytes is left h
-headline same words src src' out out' diag diag' status.ReadFault h u form bytes is left memory read written = absurd (read h.0.rose)
-headline same words src src' out out' diag diag' status.WriteFault h u form bytes is left memory read written = absurd (written h.0.rose)
-headline same words src src' out out' diag diag' status.NoMemory h u form bytes is left memory read written = absurd (memory refl)
-headline same words src src' out out' diag diag' status.NotSt h u form bytes is left memory read written =
-    refused same words src src' out out' form bytes is left diag diag' status.NotSt (λ e. cc) (λ n. u n (λ e. cc)) h
-headline same words src src' out out' diag diag' status.Words h u form bytes is left memory read written =
-    refused same words src src' out out' form bytes is left diag diag' status.Words (λ e. cc) (λ n. u n (λ e. cc)) h
-headline same words src src' out out' diag diag' status.Gml h u form bytes is left memory read written =
-    refused same words src src' out out' form bytes is left diag diag' status.Gml (λ e. cc) (λ n. u n (λ e. cc)) h
-headline same words src src' out out' diag diag' status.Limit h u form bytes is left memory read written =
-    refused same words src src' out out' form bytes is left diag diag' status.Limit (λ e. cc) (λ n. u n (λ e. cc)) h
-headline same words src src' out out' diag diag' status.Path h u form bytes is left memory read written =
-    refused same words src src' out out' form bytes is left diag diag' status.Path (λ e. cc) (λ n. u n (λ e. cc)) h
-headline same words src src' out out' diag diag' status.UnknownVertex h u form bytes is left memory read written =
-    refused same words src src' out out' form bytes is left diag diag' status.UnknownVertex (λ e. cc) (λ n. u n (λ e. cc)) h
-headline same words src src' out out' diag diag' status.NotClean h u form bytes is left memory read written =
-    refused same words src src' out out' form bytes is left diag diag' status.NotClean (λ e. cc) (λ n. u n (λ e. cc)) h
-headline same words src src' out out' diag diag' status.Eps h u form bytes is left memory read written =
-    refused same words src src' out out' form bytes is left diag diag' status.Eps (λ e. cc) (λ n. u n (λ e. cc)) h
-headline same words src src' out out' diag diag' status.Edit h u form bytes is left memory read written =
-    refused same words src src' out out' form bytes is left diag diag' status.Edit (λ e. cc) (λ n. u n (λ e. cc)) h
-headline same words src src' out out' diag diag' status.NoOrientation h u form bytes is left memory read written =
-    refused same words src src' out out' form bytes is left diag diag' status.NoOrientation (λ e. cc) (λ n. u n (λ e. cc)) h
+headline same words src src' out out' diag diag' s h u form bytes is left =
+    ending words src src' out out' diag diag' (HeadlineFor form bytes out out') (drawn_whole same words src src' out out' form bytes is left) (refused same words src src' out out' form bytes is left diag diag') s h u
+
+-- ---- the words of a query
+module _ (same_poles : OnePolesAnswer) (words : List (List ℕ)) (src src' : SourceState) (out out' : SinkState) (pairs : List (ℤ × ℤ)) (bytes : List ℕ)
+    (is : IsCommand words (Query pairs)) (left : src.left ≡ Some bytes) where
+  lines_whole : IsDone words src src' out out' → QueryHeadlineFor pairs bytes out out' status.Done
+  lines_whole h =
+      let o = output_of (Query pairs) bytes h.text (asked (Query pairs) words src.left bytes h.ready.bytes is left h.ready.told (Ok h.text) h.ready.answer) in
+      record {
+        answered = λ g st file known. refl;
+        right = λ e. record { g = o.g; st = o.st; file = o.file; out = h.text; answers = o.answers; gains = h.gains };
+        nothing = λ n. absurd (n refl);
+      }
+
+  no_lines : (diag diag' : SinkState) (s : Status) → s ≢ status.Done → out' ≡ out → IsTold words src src' diag diag' s → QueryHeadlineFor pairs bytes out out' s
+  no_lines diag diag' s other before h =
+      let r = h.refused in
+      let answer = asked (Query pairs) words src.left bytes r.bytes is left r.told (Err h.refusal) r.answer in
+      record {
+        answered = λ g st file known.
+            let first = query_err pairs g st h.refusal (planar_says (Query pairs) bytes g st file (accepted_one same_poles g) (Err h.refusal) answer) in
+            absurd (known_unknown g (names_of pairs) first.0 known first.2);
+        right = λ e. absurd (other e);
+        nothing = λ n. before;
+      }
+
+pub query_headline : OnePolesAnswer → (words : List (List ℕ)) (src src' : SourceState) (out out' diag diag' : SinkState) (s : Status)
+    → EndsBy words src src' out out' diag diag' s → (s ≢ status.Done → s ≢ status.WriteFault → out' ≡ out) → QueryHeadline words src src' out out' s
+query_headline same words src src' out out' diag diag' s h u pairs bytes is left =
+    ending words src src' out out' diag diag' (QueryHeadlineFor pairs bytes out out') (lines_whole same words src src' out out' pairs bytes is left) (no_lines same words src src' out out' pairs bytes is left diag diag') s h u
 
 -- a sink that is as before has its state as before
 pub as_before : {K : Type 0} (state : K → SinkState) (old new : K) → new ≡ old → state new ≡ state old

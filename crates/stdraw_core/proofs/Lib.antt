@@ -1,5 +1,3 @@
-pub mod LinkLemmas
-pub mod SearchLemmas
 pub mod VerdictLemmas
 pub mod DrawingLemmas
 pub mod PolylineLemmas

@@ -1,9 +1,13 @@
 -- Words and bytes have at most one answer, as each stage has.
 use Rattle.std.proofs.Common.{◌≡◌, ℕ, suc, ◌+◌, ◌*◌, ◌<◌, ◌≤◌, inl, inr, ℤ, pos, List, [], ◌∷◌, ◌++◌, length, get_or, Some, None, codes, refl, sym, ap, ◌∙◌, subst, arith}
-use Rattle.std.specs.Prelude.{Ok, Err}
+use Rattle.std.specs.Prelude.{Ok, Err, ◌↔◌, IsTrue}
 use Rattle.gml_core.specs.Trees.{Entries}
 use Rattle.gml_core.proofs.Unique.{one_tree, one_first, not_both}
-use Rattle.st_input.specs.InputGraph.{InputGraph}
+use Rattle.st_ids.specs.Graph.{arcs_of}
+use Rattle.st_ids.specs.Walks.{Reaches}
+use Rattle.st_input.specs.InputGraph.{InputGraph, IsConsistent}
+use Rattle.st_input.specs.Names.{AreDifferent}
+use Rattle.st_input.proofs.LawLemmas.{fits_together}
 use Rattle.st_test.specs.Planar.{IsPlanarSt, StValue}
 use Rattle.st_test.specs.PolesAnswer.{OnePolesAnswer}
 use Rattle.st_words.specs.declared.words.Command.{Command}
@@ -16,22 +20,23 @@ use Rattle.st_report.specs.declared.stop.Refusal.{Refusal}
 use Rattle.st_report.specs.declared.stop.Refusal.TheVariants.{Words, TooManyBytes, Gml, Shape, NotSt, UnknownVertex}
 use Rattle.stdraw_core.specs.Stages.{IsOne}
 use Rattle.st_words.specs.Words.{IsName, AreNames, form_words, AreForm, IsCommand}
-use Rattle.stdraw_core.specs.Query.{names_of, AreKnown, IsFirstUnknown, IsLine, line_of_names, AreLines, no_line, one_line}
+use Rattle.stdraw_core.specs.Query.{names_of, AreKnown, IsFirstUnknown, IsLine, line_of_pair, AreLines, no_line, one_line, AreAnswers}
 use Rattle.stdraw_core.specs.Verdict.{IsAccepted}
 use Rattle.stdraw_core.specs.Answer.{Asks, IsFew, IsTree, IsGraph, AnswersQuery, AnswersTest, AnswersDraw, Answers, AnswersGraph, AnswersFile, HaveOneAnswer, byte_limit}
 use Rattle.st_ids.specs.declared.names.Names.{Names}
+use Rattle.st_shape.specs.declared.point.Point.{Point}
 use Rattle.st_shape.specs.Rules.{Drawing}
-use Rattle.st_map.specs.Embedded.{Embedded}
 use Rattle.st_sides.specs.Sides.{SidesValue, IsSides}
 use Rattle.st_sides.specs.SidesOf.{IsSidesOf}
 use Rattle.st_sides.proofs.MeaningLemmas.{meaning_law}
 use Rattle.st_sides.proofs.OneValueLemmas.{one_value_law}
 use Rattle.eps_core.specs.Text.{text}
+use Rattle.draw_dom.specs.Points.{point_of}
 use Rattle.draw_vis.proofs.SameLemmas.{pictures_law}
 use Rattle.stdraw_core.specs.Drawing.{one_each, file_names, IsPictureOf, Draws}
 use Rattle.stdraw_core.proofs.DrawingLemmas.{found}
 use Rattle.stdraw_core.proofs.PolylineLemmas.{one_polyline}
-use Rattle.stdraw_core.proofs.DominanceLemmas.{one_dominance}
+use Rattle.stdraw_core.proofs.DominanceLemmas.{one_dominance, one_points}
 use Rattle.stdraw_core.proofs.StageLemmas.{ok, err, one_then, same_bool}
 use Rattle.stdraw_core.proofs.VerdictOne.{accepted_one}
 
@@ -239,15 +244,30 @@ graph_one tree (Err r) (Ok g') h k = absurd (graph_apart tree g' r k h)
 graph_one tree (Err r) (Err s) h k = err r s (graph_err tree r s h k)
 
 -- ---- the query
-same_line : (g : InputGraph) (p : ℤ × ℤ) (l m : List ℕ) → IsLine g p l → IsLine g p m → l ≡ m
-same_line g p l m h k = h.text ∙ ap (line_of_names p.0 p.1) (same_bool h.answer k.answer h.reaches k.reaches) ∙ sym k.text
+-- the answers of two lines are the same where the vertices of the names are
+same_line : (g : InputGraph) (points : List Point) (p : ℤ × ℤ) (l m : List ℕ) → AreDifferent g.vertex_names → IsLine g points p l → IsLine g points p m → l ≡ m
+same_line g points p l m different h k =
+    let u : h.from ≡ k.from = different h.from k.from p.0 h.from_named k.from_named in
+    let v : h.to ≡ k.to = different h.to k.to p.1 h.to_named k.to_named in
+    let there : IsTrue k.answer ↔ Reaches (arcs_of g.graph) h.from h.to =
+    subst (λ z. IsTrue k.answer ↔ Reaches (arcs_of g.graph) z h.to) (sym u) (subst (λ z. IsTrue k.answer ↔ Reaches (arcs_of g.graph) k.from z) (sym v) k.reaches) in
+    h.text
+    ∙ ap (λ z. line_of_pair p.0 p.1 z (point_of points h.from) (point_of points h.to)) (same_bool h.answer k.answer h.reaches there)
+    ∙ ap (λ z. line_of_pair p.0 p.1 k.answer (point_of points z) (point_of points h.to)) u
+    ∙ ap (λ z. line_of_pair p.0 p.1 k.answer (point_of points k.from) (point_of points z)) v
+    ∙ sym k.text
 
-same_lines : (g : InputGraph) (ps : List (ℤ × ℤ)) (a b : List ℕ) → AreLines g ps a → AreLines g ps b → a ≡ b
-same_lines g ps a b (no_line e) (no_line f) = e ∙ sym f
-same_lines g ps a b (one_line {p = p} {pairs = more} l rest h r e) (one_line l' rest' h' r' e') =
-    e ∙ ap (λ z. z ++ rest) (same_line g p l l' h h') ∙ ap (λ z. l' ++ z) (same_lines g more rest rest' r r') ∙ sym e'
+same_lines : (g : InputGraph) (points : List Point) (ps : List (ℤ × ℤ)) (a b : List ℕ) → AreDifferent g.vertex_names → AreLines g points ps a → AreLines g points ps b → a ≡ b
+same_lines g points ps a b different (no_line e) (no_line f) = e ∙ sym f
+same_lines g points ps a b different (one_line {p = p} {pairs = more} l rest h r e) (one_line l' rest' h' r' e') =
+    e ∙ ap (λ z. z ++ rest) (same_line g points p l l' different h h') ∙ ap (λ z. l' ++ z) (same_lines g points more rest rest' different r r') ∙ sym e'
 
-known_unknown : (g : InputGraph) (ns : List ℤ) (n : ℤ) → AreKnown g ns → IsFirstUnknown g ns n → ⊥
+same_answers : (ps : List (ℤ × ℤ)) (g : InputGraph) (st : StValue) → IsConsistent g → IsPlanarSt st.map.graph st.source st.sink st.outer → (a b : List ℕ) → AreAnswers g st ps a → AreAnswers g st ps b → a ≡ b
+same_answers ps g st tables planar a b h k =
+    let one : h.points ≡ k.points = one_points st planar h.are.sides k.are.sides (file_names g) h.are.picture k.are.picture h.points k.points h.are.drawn k.are.drawn in
+    same_lines g h.points ps a b tables.different h.lines (subst (λ (z : List Point). AreLines g z ps b) (sym one) k.lines)
+
+pub known_unknown : (g : InputGraph) (ns : List ℤ) (n : ℤ) → AreKnown g ns → IsFirstUnknown g ns n → ⊥
 known_unknown g [] n h k = k
 known_unknown g (m ∷ ns) n h k = elim k [ inl a ↦ a.0 h.0.0 h.0.1 | inr b ↦ known_unknown g ns n h.1 b.1 ]
 
@@ -258,21 +278,21 @@ same_unknown g (x ∷ ns) n m h k = elim h [
   | inr a ↦ elim k [ inl b ↦ absurd (b.0 a.0.0 a.0.1) | inr b ↦ same_unknown g ns n m a.1 b.1 ]
 ]
 
-query_err : (ps : List (ℤ × ℤ)) (g : InputGraph) (r : Refusal) → AnswersQuery ps g (Err r) → (n : ℤ) × (r ≡ UnknownVertex n) × IsFirstUnknown g (names_of ps) n
-query_err ps g Words h = absurd h
-query_err ps g TooManyBytes h = absurd h
-query_err ps g (Gml f) h = absurd h
-query_err ps g (Shape f) h = absurd h
-query_err ps g (NotSt why) h = absurd h
-query_err ps g (UnknownVertex n) h = (n, refl, h)
+pub query_err : (ps : List (ℤ × ℤ)) (g : InputGraph) (st : StValue) (r : Refusal) → AnswersQuery ps g st (Err r) → (n : ℤ) × (r ≡ UnknownVertex n) × IsFirstUnknown g (names_of ps) n
+query_err ps g st Words h = absurd h
+query_err ps g st TooManyBytes h = absurd h
+query_err ps g st (Gml f) h = absurd h
+query_err ps g st (Shape f) h = absurd h
+query_err ps g st (NotSt why) h = absurd h
+query_err ps g st (UnknownVertex n) h = (n, refl, h)
 
-query_one : (ps : List (ℤ × ℤ)) (g : InputGraph) → IsOne (AnswersQuery ps g)
-query_one ps g (Ok a) (Ok b) h k = ok a b (same_lines g ps a b h.1 k.1)
-query_one ps g (Ok a) (Err s) h k = let e = query_err ps g s k in absurd (known_unknown g (names_of ps) e.0 h.0 e.2)
-query_one ps g (Err r) (Ok b) h k = let e = query_err ps g r h in absurd (known_unknown g (names_of ps) e.0 k.0 e.2)
-query_one ps g (Err r) (Err s) h k =
-    let e = query_err ps g r h in
-    let f = query_err ps g s k in
+query_one : (ps : List (ℤ × ℤ)) (g : InputGraph) (st : StValue) → IsConsistent g → IsPlanarSt st.map.graph st.source st.sink st.outer → IsOne (AnswersQuery ps g st)
+query_one ps g st tables planar (Ok a) (Ok b) h k = ok a b (same_answers ps g st tables planar a b h k)
+query_one ps g st tables planar (Ok a) (Err s) h k = let e = query_err ps g st s k in absurd (known_unknown g (names_of ps) e.0 h.known e.2)
+query_one ps g st tables planar (Err r) (Ok b) h k = let e = query_err ps g st r h in absurd (known_unknown g (names_of ps) e.0 k.known e.2)
+query_one ps g st tables planar (Err r) (Err s) h k =
+    let e = query_err ps g st r h in
+    let f = query_err ps g st s k in
     err r s (e.1 ∙ ap (λ z. UnknownVertex z) (same_unknown g (names_of ps) e.0 f.0 e.2 f.2) ∙ sym f.1)
 
 -- ---- the test
@@ -301,18 +321,22 @@ draw_one form g st planar (Ok a) (Err s) h k = absurd k
 draw_one form g st planar (Err r) y h k = absurd h
 
 -- ---- all stages
-answers_one : (c : Command) (g : InputGraph) (st : StValue) → IsAccepted g (Ok st) → IsOne (Answers c g st)
-answers_one (Query ps) g st is = query_one ps g
-answers_one Test g st is = test_one g st
-answers_one (Draw form) g st is = draw_one form g st (found g st is).planar
+answers_one : (c : Command) (g : InputGraph) (st : StValue) → IsConsistent g → IsAccepted g (Ok st) → IsOne (Answers c g st)
+answers_one (Query ps) g st tables is = query_one ps g st tables (found g st is).planar
+answers_one Test g st tables is = test_one g st
+answers_one (Draw form) g st tables is = draw_one form g st (found g st is).planar
+
+-- the tables of a file's graph fit together
+pub consistent : (tree : Entries) (g : InputGraph) → IsGraph tree (Ok g) → IsConsistent g
+consistent tree g is = fits_together tree 20000 60000 g (omega arith) (omega arith) is.0 is.1
 
 module _ (answer_same : OnePolesAnswer) where
-  graph_answers_one : (c : Command) (g : InputGraph) → IsOne (AnswersGraph c g)
-  graph_answers_one c g = one_then (IsAccepted g) (Answers c g) (accepted_one answer_same g) (answers_one c g)
+  graph_answers_one : (c : Command) (g : InputGraph) → IsConsistent g → IsOne (AnswersGraph c g)
+  graph_answers_one c g tables = one_then (IsAccepted g) (Answers c g) (accepted_one answer_same g) (λ st is. answers_one c g st tables is)
 
   file_answers_one : (c : Command) (bytes : List ℕ) → IsOne (AnswersFile c bytes)
   file_answers_one c bytes = one_then (IsFew bytes) _ (few_one bytes)
-      (λ u _. one_then (IsTree bytes) _ (tree_one bytes) (λ tree _. one_then (IsGraph tree) (AnswersGraph c) (graph_one tree) (λ g _. graph_answers_one c g)))
+      (λ u _. one_then (IsTree bytes) _ (tree_one bytes) (λ tree _. one_then (IsGraph tree) (AnswersGraph c) (graph_one tree) (λ g is. graph_answers_one c g (consistent tree g is))))
 
 pub one_answer : OnePolesAnswer → HaveOneAnswer
 one_answer answer_same words bytes = one_then (Asks words) (λ command. AnswersFile command bytes) (asks_one words) (λ command _. file_answers_one answer_same command bytes)

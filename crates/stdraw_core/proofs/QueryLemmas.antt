@@ -1,11 +1,15 @@
 -- A query answered pair by pair.
-use Rattle.std.proofs.Common.{◌≡◌, ℕ, suc, ◌+◌, ◌<◌, ℤ, Bool, inl, inr, List, [], ◌∷◌, ◌++◌, length, get_or, take, drop, refl, sym, ap, ◌∙◌, subst, append_assoc, append-nil, drop-cons, arith}
+use Rattle.std.proofs.Common.{◌≡◌, ℕ, suc, ◌+◌, ◌<◌, ℤ, Bool, inl, inr, List, [], ◌∷◌, ◌++◌, length, get_or, take, drop, slice_get, Some, refl, sym, ap, ◌∙◌, subst, append_assoc, append-nil, drop-cons, arith}
 use Rattle.std.specs.Prelude.{◌↔◌, IsTrue}
 use Rattle.std.proofs.lemmas.List.{take-append-drop, take_more}
+use Rattle.std.proofs.lemmas.Option.{get_or_from_slice_get}
 use Rattle.st_ids.specs.Walks.{Reaches}
 use Rattle.st_ids.specs.Graph.{arcs_of}
 use Rattle.st_input.specs.InputGraph.{InputGraph}
-use Rattle.stdraw_core.specs.Query.{IsNamed, IsKnown, IsUnknown, names_of, AreKnown, IsFirstUnknown, line_of_names, IsLine, AreLines, no_line, one_line}
+use Rattle.st_picture.specs.Items.{origin}
+use Rattle.st_shape.specs.declared.point.Point.{Point}
+use Rattle.draw_dom.specs.Points.{AreAtMost, point_of}
+use Rattle.stdraw_core.specs.Query.{IsNamed, IsKnown, IsUnknown, names_of, AreKnown, IsFirstUnknown, line_of_pair, IsLine, AreLines, no_line, one_line}
 
 -- ---- names
 pub known_push : (g : InputGraph) (ps : List (ℤ × ℤ)) (p : ℤ × ℤ) → AreKnown g (names_of ps) → IsKnown g p.0 → IsKnown g p.1 → AreKnown g (names_of (ps ++ p ∷ []))
@@ -21,22 +25,10 @@ unknown_second g [] qs p all good bad = inr (good, inl (bad, refl))
 unknown_second g (q ∷ ps) qs p all good bad = inr (all.0, inr (all.1.0, unknown_second g ps qs p all.1.1 good bad))
 
 -- ---- lines
-pub lines_push : (g : InputGraph) (ps : List (ℤ × ℤ)) (p : ℤ × ℤ) (out line : List ℕ) → AreLines g ps out → IsLine g p line → AreLines g (ps ++ p ∷ []) (out ++ line)
-lines_push g ps p out line (no_line e) new = one_line line [] new (no_line refl) (ap (λ l. l ++ line) e ∙ sym (append-nil line))
-lines_push g ps p out line (one_line first rest l more e) new =
-    one_line first (rest ++ line) l (lines_push g _ p rest line more new) (ap (λ z. z ++ line) e ∙ append_assoc first rest line)
-
--- where the names are of the two vertices alone, reaching by name is reaching
-pub names_reach : (g : InputGraph) (p : ℤ × ℤ) (u v : ℕ) (answer : Bool) → IsNamed g u p.0 → IsNamed g v p.1 → ((w : ℕ) → IsNamed g w p.0 → w ≡ u) → ((w : ℕ) → IsNamed g w p.1 → w ≡ v)
-    → (IsTrue answer ↔ Reaches (arcs_of g.graph) u v) → IsLine g p (line_of_names p.0 p.1 answer)
-names_reach g p u v answer nu nv only_u only_v reaches = record {
-  answer = answer;
-  reaches = (
-    (λ y. record { from = u; to = v; from_named = nu; to_named = nv; way = reaches.0 y }),
-    (λ r. reaches.1 (subst (λ z. Reaches (arcs_of g.graph) z v) (only_u r.from r.from_named) (subst (λ z. Reaches (arcs_of g.graph) r.from z) (only_v r.to r.to_named) r.way))),
-  );
-  text = refl;
-}
+pub lines_push : (g : InputGraph) (points : List Point) (ps : List (ℤ × ℤ)) (p : ℤ × ℤ) (out line : List ℕ) → AreLines g points ps out → IsLine g points p line → AreLines g points (ps ++ p ∷ []) (out ++ line)
+lines_push g points ps p out line (no_line e) new = one_line line [] new (no_line refl) (ap (λ l. l ++ line) e ∙ sym (append-nil line))
+lines_push g points ps p out line (one_line first rest l more e) new =
+    one_line first (rest ++ line) l (lines_push g points _ p rest line more new) (ap (λ z. z ++ line) e ∙ append_assoc first rest line)
 
 -- ---- a list cut at a place
 pub split_at : {X : Type 0} (xs : List X) (i : ℕ) (d : X) → i < length xs → xs ≡ take i xs ++ get_or xs i d ∷ drop (i + 1) xs
@@ -53,29 +45,46 @@ pub stops_second : (g : InputGraph) (ps qs : List (ℤ × ℤ)) (p : ℤ × ℤ)
 stops_second g ps qs p n m e f all good bad =
     subst (λ z. IsFirstUnknown g (names_of (ps ++ p ∷ qs)) z) (sym f) (unknown_second g ps qs p all (subst (IsKnown g) e good) (subst (IsUnknown g) f bad))
 
--- the two vertices of a pair's names, and whether the one reaches the other
-pub record IsPair (g : InputGraph) (n m : ℤ) (u v : ℕ) (answer : Bool) : Type 0 where
+-- the two vertices of a pair's names with their points, and whether the one reaches the other
+pub record IsPair (g : InputGraph) (points : List Point) (n m : ℤ) (u v : ℕ) (answer : Bool) (p q : Point) : Type 0 where
   pub from : IsNamed g u n
   pub to : IsNamed g v m
-  pub only_from : (w : ℕ) → IsNamed g w n → w ≡ u
-  pub only_to : (w : ℕ) → IsNamed g w m → w ≡ v
-  pub reaches : IsTrue answer ↔ Reaches (arcs_of g.graph) u v
+  pub at_most : IsTrue answer ↔ AreAtMost points u v
+  pub decides : Reaches (arcs_of g.graph) u v ↔ AreAtMost points u v
+  pub first : slice_get points u ≡ Some p
+  pub second : slice_get points v ≡ Some q
 
-pub same_pair : (g : InputGraph) (n m n' m' : ℤ) (u v : ℕ) (answer : Bool) → n ≡ n' → m ≡ m' → IsPair g n m u v answer → IsPair g n' m' u v answer
-same_pair g n m n' m' u v answer e f h = subst (λ z. IsPair g z m' u v answer) e (subst (λ z. IsPair g n z u v answer) f h)
+point_read : (points : List Point) (v : ℕ) (p : Point) → slice_get points v ≡ Some p → point_of points v ≡ p
+unfolding point_of
+point_read points v p e = get_or_from_slice_get points v p origin e
+
+pair_line : (g : InputGraph) (points : List Point) (r : ℤ × ℤ) (u v : ℕ) (answer : Bool) (p q : Point) → IsPair g points r.0 r.1 u v answer p q → IsLine g points r (line_of_pair r.0 r.1 answer p q)
+pair_line g points r u v answer p q h = record {
+  from = u;
+  to = v;
+  from_named = h.from;
+  to_named = h.to;
+  answer = answer;
+  reaches = ((λ y. h.decides.1 (h.at_most.0 y)), (λ w. h.at_most.1 (h.decides.0 w)));
+  at_most = h.at_most;
+  text = ap (λ z. line_of_pair r.0 r.1 answer z q) (sym (point_read points u p h.first)) ∙ ap (λ z. line_of_pair r.0 r.1 answer (point_of points u) z) (sym (point_read points v q h.second));
+}
+
+same_pair : (g : InputGraph) (points : List Point) (n m n' m' : ℤ) (u v : ℕ) (answer : Bool) (p q : Point) → n ≡ n' → m ≡ m' → IsPair g points n m u v answer p q → IsPair g points n' m' u v answer p q
+same_pair g points n m n' m' u v answer p q e f h = subst (λ z. IsPair g points z m' u v answer p q) e (subst (λ z. IsPair g points n z u v answer p q) f h)
 
 -- the names and the lines so far
-pub record AreAnswered (g : InputGraph) (ps : List (ℤ × ℤ)) (out : List ℕ) : Type 0 where
+pub record AreAnswered (g : InputGraph) (points : List Point) (ps : List (ℤ × ℤ)) (out : List ℕ) : Type 0 where
   pub known : AreKnown g (names_of ps)
-  pub lines : AreLines g ps out
+  pub lines : AreLines g points ps out
 
-pub answered_push : (g : InputGraph) (ps : List (ℤ × ℤ)) (p : ℤ × ℤ) (out out' : List ℕ) (n m : ℤ) (u v : ℕ) (answer : Bool) → AreAnswered g ps out → n ≡ p.0 → m ≡ p.1 → IsPair g n m u v answer
-    → out' ≡ out ++ line_of_names n m answer → AreAnswered g (ps ++ p ∷ []) out'
-answered_push g ps p out out' n m u v answer h e f pair text =
-    let same : IsPair g p.0 p.1 u v answer = same_pair g n m p.0 p.1 u v answer e f pair in
-    let line : IsLine g p (line_of_names p.0 p.1 answer) = names_reach g p u v answer same.from same.to same.only_from same.only_to same.reaches in
-    let text' : out' ≡ out ++ line_of_names p.0 p.1 answer = text ∙ ap (λ z. out ++ line_of_names z m answer) e ∙ ap (λ z. out ++ line_of_names p.0 z answer) f in
+pub answered_push : (g : InputGraph) (points : List Point) (ps : List (ℤ × ℤ)) (r : ℤ × ℤ) (out out' : List ℕ) (n m : ℤ) (u v : ℕ) (answer : Bool) (p q : Point) → AreAnswered g points ps out → n ≡ r.0 → m ≡ r.1
+    → IsPair g points n m u v answer p q → out' ≡ out ++ line_of_pair n m answer p q → AreAnswered g points (ps ++ r ∷ []) out'
+answered_push g points ps r out out' n m u v answer p q h e f pair text =
+    let same : IsPair g points r.0 r.1 u v answer p q = same_pair g points n m r.0 r.1 u v answer p q e f pair in
+    let line : IsLine g points r (line_of_pair r.0 r.1 answer p q) = pair_line g points r u v answer p q same in
+    let text' : out' ≡ out ++ line_of_pair r.0 r.1 answer p q = text ∙ ap (λ z. out ++ line_of_pair z m answer p q) e ∙ ap (λ z. out ++ line_of_pair r.0 z answer p q) f in
     record {
-      known = known_push g ps p h.known (u, same.from) (v, same.to);
-      lines = subst (λ t. AreLines g (ps ++ p ∷ []) t) (sym text') (lines_push g ps p out (line_of_names p.0 p.1 answer) h.lines line);
+      known = known_push g ps r h.known (u, same.from) (v, same.to);
+      lines = subst (λ t. AreLines g points (ps ++ r ∷ []) t) (sym text') (lines_push g points ps r out (line_of_pair r.0 r.1 answer p q) h.lines line);
     }

@@ -16,11 +16,12 @@ use Rattle.st_report.specs.declared.stop.Refusal.TheVariants.{Words, TooManyByte
 use Rattle.stdraw_core.specs.Stages.{Then, IsOne}
 use Rattle.st_words.specs.Words.{IsCommand}
 use Rattle.st_map.specs.Embedded.{edges, faces}
+use Rattle.st_shape.specs.declared.point.Point.{Point}
 use Rattle.st_test.specs.Planar.{StValue}
 use Rattle.st_report.specs.Lines.{numbered}
 use Rattle.stdraw_core.specs.Verdict.{IsAccepted, vertex_name}
 use Rattle.stdraw_core.specs.Drawing.{Draws}
-use Rattle.stdraw_core.specs.Query.{AreKnown, IsFirstUnknown, AreLines, names_of}
+use Rattle.stdraw_core.specs.Query.{AreKnown, AreLines, AreAnswers, IsFirstUnknown, names_of}
 
 -- the greatest numbers of bytes of a file, of vertices and of edges
 abbrev pub byte_limit : ℕ
@@ -62,11 +63,17 @@ test_line g st = (numbered (codes "planar st-graph: ") (pos st.map.graph.vertice
     ++ (numbered [] (pos (edges st.map.graph)) (codes " edges, ") ++ numbered [] (pos (faces st.map.graph)) (codes " faces, source ")))
     ++ (numbered [] (vertex_name g st.source) (codes ", sink ") ++ numbered [] (vertex_name g st.sink) (codes "\n"))
 
--- what a query answers: one line a pair, or the first name that no vertex has
-abbrev pub AnswersQuery : List (ℤ × ℤ) → InputGraph → Result (List ℕ) Refusal → Type 0
-AnswersQuery pairs g (Ok out) = AreKnown g (names_of pairs) × AreLines g pairs out
-AnswersQuery pairs g (Err (UnknownVertex name)) = IsFirstUnknown g (names_of pairs) name
-AnswersQuery pairs g (Err _) = ⊥
+-- what is answered to pairs with these points: one line a pair, or the first name that no vertex has
+abbrev pub AnswersPairs : List (ℤ × ℤ) → InputGraph → List Point → Result (List ℕ) Refusal → Type 0
+AnswersPairs pairs g points (Ok out) = AreKnown g (names_of pairs) × AreLines g points pairs out
+AnswersPairs pairs g points (Err (UnknownVertex name)) = IsFirstUnknown g (names_of pairs) name
+AnswersPairs pairs g points (Err _) = ⊥
+
+-- what a query answers: the same with the points of the dominance drawing
+abbrev pub AnswersQuery : List (ℤ × ℤ) → InputGraph → StValue → Result (List ℕ) Refusal → Type 0
+AnswersQuery pairs g st (Ok out) = AreAnswers g st pairs out
+AnswersQuery pairs g st (Err (UnknownVertex name)) = IsFirstUnknown g (names_of pairs) name
+AnswersQuery pairs g st (Err _) = ⊥
 
 -- what a test answers: the line of the planar st-graph
 abbrev pub AnswersTest : InputGraph → StValue → Result (List ℕ) Refusal → Type 0
@@ -80,7 +87,7 @@ AnswersDraw form g st (Err _) = ⊥
 
 -- what the command answers about a planar st-graph
 abbrev pub Answers : Command → InputGraph → StValue → Result (List ℕ) Refusal → Type 0
-Answers (Query pairs) g st answer = AnswersQuery pairs g answer
+Answers (Query pairs) g st answer = AnswersQuery pairs g st answer
 Answers Test g st answer = AnswersTest g st answer
 Answers (Draw form) g st answer = AnswersDraw form g st answer
 

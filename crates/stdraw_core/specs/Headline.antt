@@ -1,22 +1,26 @@
--- What is promised of every drawing.
+-- What is promised of every drawing and of every query.
 -- Letters: g graph of the file, st planar st-graph.
 --   IsPlanarFile bytes g st     the bytes are those of a planar st-graph within the limits
 --   IsDrawnFile                 the text of a right picture of it was written
 --   HeadlineFor                 a drawing is written exactly where the file has a planar st-graph, and it is a right one
 --   Headline                    so it is for each form, where nothing outside has failed
-use Rattle.std.specs.Prelude.{◌≡◌, ◌≢◌, ◌≤◌, ℕ, List, length, Some, Ok}
+--   IsAnsweredFile              the lines of a query of its vertices were written
+--   QueryHeadlineFor            lines are written exactly where the file has a planar st-graph with all names, and they are right
+--   QueryHeadline               so it is for all pairs, where nothing outside has failed
+use Rattle.std.specs.Prelude.{◌≡◌, ◌≢◌, ◌≤◌, ℕ, ℤ, List, length, Some, Ok}
 use Rattle.gml_core.specs.Trees.{Entries}
 use Rattle.gml_core.specs.Reading.{IsText}
 use Rattle.st_input.specs.InputGraph.{InputGraph}
 use Rattle.st_port.specs.Faults.{Rose}
 use Rattle.st_port.specs.Streams.{SourceState, SinkState, Gains}
 use Rattle.st_test.specs.Planar.{StValue}
-use Rattle.st_words.specs.declared.words.Command.TheVariants.{Draw}
+use Rattle.st_words.specs.declared.words.Command.TheVariants.{Draw, Query}
 use Rattle.st_words.specs.declared.words.DrawForm.{DrawForm}
 use Rattle.st_report.specs.declared.stop.Status.{Status}
 use Rattle.st_report.specs.declared.stop.Status.TheVariants as status
 use Rattle.stdraw_core.specs.Answer.{IsGraph, byte_limit}
 use Rattle.stdraw_core.specs.Drawing.{ShowsFile}
+use Rattle.stdraw_core.specs.Query.{AreAnswers, AreKnown, names_of}
 use Rattle.stdraw_core.specs.Verdict.{IsAccepted}
 use Rattle.st_words.specs.Words.{IsCommand}
 
@@ -48,3 +52,25 @@ pub record HeadlineFor (form : DrawForm) (bytes : List ℕ) (old new : SinkState
 abbrev pub Headline : List (List ℕ) → SourceState → SourceState → SinkState → SinkState → Status → Type 0
 Headline words src src' out out' s = (form : DrawForm) (bytes : List ℕ) → IsCommand words (Draw form) → src.left ≡ Some bytes
     → s ≢ status.NoMemory → ¬ Rose src.faults src'.faults → ¬ Rose out.faults out'.faults → HeadlineFor form bytes out out' s
+
+-- the lines that answer a query of the vertices of the file's graph were written
+pub record IsAnsweredFile (pairs : List (ℤ × ℤ)) (bytes : List ℕ) (old new : SinkState) : Type 0 where
+  pub g : InputGraph
+  pub st : StValue
+  pub file : IsPlanarFile bytes g st
+  pub out : List ℕ
+  pub answers : AreAnswers g st pairs out
+  pub gains : Gains old new out
+
+-- Each query of vertices of a planar st-graph is answered. Lines are written for no other file and for no other names, and
+-- they are right: each says yes exactly where a walk leads from the first vertex to the second, which is exactly where the
+-- first point is at most the second. Where there is no answer, nothing is written.
+pub record QueryHeadlineFor (pairs : List (ℤ × ℤ)) (bytes : List ℕ) (old new : SinkState) (s : Status) : Type 0 where
+  pub answered : (g : InputGraph) (st : StValue) → IsPlanarFile bytes g st → AreKnown g (names_of pairs) → s ≡ status.Done
+  pub right : s ≡ status.Done → IsAnsweredFile pairs bytes old new
+  pub nothing : s ≢ status.Done → new ≡ old
+
+-- It is so for the words of each query, where memory sufficed, and neither the source nor the output had a fault.
+abbrev pub QueryHeadline : List (List ℕ) → SourceState → SourceState → SinkState → SinkState → Status → Type 0
+QueryHeadline words src src' out out' s = (pairs : List (ℤ × ℤ)) (bytes : List ℕ) → IsCommand words (Query pairs) → src.left ≡ Some bytes
+    → s ≢ status.NoMemory → ¬ Rose src.faults src'.faults → ¬ Rose out.faults out'.faults → QueryHeadlineFor pairs bytes out out' s

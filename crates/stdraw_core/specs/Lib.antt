@@ -1,8 +1,6 @@
-pub mod Links
-pub mod Search
 pub mod Stages
-pub mod Query
 pub mod Drawing
+pub mod Query
 pub mod Verdict
 pub mod Answer
 pub mod Outputs

@@ -7,10 +7,9 @@
 mod drawing;
 mod file;
 pub mod laws;
-mod links;
+mod number;
 mod output;
 mod query;
-mod reach;
 mod tested;
 mod top;
 mod verdict;

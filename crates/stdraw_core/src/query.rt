@@ -1,34 +1,52 @@
-//! The answer to a query: for each pair of names, whether the first vertex reaches the second.
-ghost use Rattle.std.specs.Prelude.{◌≡◌, ◌++◌, ◌<◌, ◌↔◌, length, IfOk, OnOk, IsTrue};
-ghost use Rattle.st_ids.specs.Walks.{Reaches};
-ghost use Rattle.st_ids.specs.Graph.{arcs_of};
-ghost use Rattle.st_input.specs.Names.{AreDifferent};
-ghost use Rattle.stdraw_core.specs.Answer.{AnswersQuery};
-ghost use Rattle.stdraw_core.specs.Links.{IsLinked};
-ghost use Rattle.stdraw_core.specs.Query.{line_of_names};
+//! The answer to a query: for each pair of names whether the first vertex reaches the second, and where both stand in the
+//! dominance drawing.
+ghost use Rattle.std.specs.Prelude.{◌≡◌, ◌++◌, ◌≤◌, length, IfOk, OnOk};
+ghost use Rattle.st_input.specs.InputGraph.{IsConsistent};
+ghost use Rattle.stdraw_core.specs.Answer.{AnswersPairs, AnswersQuery, vertex_limit, edge_limit};
+ghost use Rattle.stdraw_core.specs.Query.{ArePoints, DecideReaching, answer_word, spelled, line_of_pair};
 ghost use Rattle.stdraw_core.specs.Stops.{Gives};
+ghost use Rattle.stdraw_core.specs.Verdict.{IsFound};
 
-use crate::links::link_edges;
-use crate::reach::reaches;
-use itoa::Buffer;
+use crate::number::append_number;
+use draw_dom::{Dominance, dominance};
 use st_ids::{NoMemory, Text};
 use st_input::GraphSpec;
 use st_report::{Refusal, Stop};
+use st_shape::Point;
+use st_sides::Sides;
+use st_test::StGraph;
 use std::alloc::Global;
 
-// Appends the line of a pair.
-fn append_line(text: &mut Text, from: i64, to: i64, reached: bool) -> Result<(), NoMemory>
-    ensures { OnOk result (text.new ≡ text.old ++ line_of_names from to reached) }
+// The answer, and the end of a point.
+fn word_of(reached: bool) -> &'static [u8]
+    ensures { result.now ≡ answer_word reached }
 {
-    let mut buffer = Buffer::new();
-    text.append(buffer.format(from).as_bytes())?;
-    text.append(b" ")?;
-    text.append(buffer.format(to).as_bytes())?;
-    if reached {
-        text.append(b" yes\n")
-    } else {
-        text.append(b" no\n")
-    }
+    if reached { b" yes " } else { b" no " }
+}
+
+// Appends both coordinates, and what follows.
+fn append_point(text: &mut Text, p: Point, tail: &[u8]) -> Result<(), NoMemory>
+    ensures { OnOk result (text.new ≡ text.old ++ spelled p tail.now) }
+{
+    append_number(text, p.x, b" ")?;
+    append_number(text, p.y, tail)
+}
+
+// Appends the line of a pair.
+fn append_line(
+    text: &mut Text,
+    from: i64,
+    to: i64,
+    reached: bool,
+    p: Point,
+    q: Point,
+) -> Result<(), NoMemory>
+    ensures { OnOk result (text.new ≡ text.old ++ line_of_pair from to reached p q) }
+{
+    append_number(text, from, b" ")?;
+    append_number(text, to, word_of(reached))?;
+    append_point(text, p, b" ")?;
+    append_point(text, q, b"\n")
 }
 
 // No vertex has the name.
@@ -38,19 +56,17 @@ fn unknown(name: i64) -> Stop
     Stop::Refused(Refusal::UnknownVertex(name))
 }
 
-/// One line a pair, or the first name that no vertex has.
-///
-/// Errors: `UnknownVertex`, `NoMemory`.
-/// Cost: O(V + E) time and memory for the links and for each pair, and the text.
-pub fn answer_query(alloc: Global, spec: &GraphSpec, pairs: &[(i64, i64)]) -> Result<Text, Stop>
-    requires { AreDifferent spec.now.vertex_names }
-    ensures { Gives (AnswersQuery pairs.now spec.now) result }
+// One line a pair, or the first name that no vertex has.
+fn lines_of(
+    alloc: Global,
+    spec: &GraphSpec,
+    pairs: &[(i64, i64)],
+    drawn: &Dominance,
+) -> Result<Text, Stop>
+    requires reaching { DecideReaching spec.now.graph drawn.now.points }
+    requires size { length drawn.now.points ≡ spec.now.graph.vertices }
+    ensures { Gives (AnswersPairs pairs.now spec.now drawn.now.points) result }
 {
-    let graph = spec.graph();
-    let links = match link_edges(alloc, graph.vertices(), graph.ends()) {
-        Ok(links) => links,
-        Err(_) => return Err(Stop::NoMemory),
-    };
     let mut text = Text::new(alloc);
     for i in 0..pairs.len() {
         let (from, to) = pairs[i];
@@ -60,12 +76,49 @@ pub fn answer_query(alloc: Global, spec: &GraphSpec, pairs: &[(i64, i64)]) -> Re
         let Some(v) = spec.vertex_of(to) else {
             return Err(unknown(to));
         };
-        let Ok(reached) = reaches(alloc, graph, &links, u, v) else {
-            return Err(Stop::NoMemory);
-        };
-        if append_line(&mut text, from, to, reached).is_err() {
+        let reached = drawn.reaches(u, v);
+        let p = drawn.point(u);
+        let q = drawn.point(v);
+        if append_line(&mut text, from, to, reached, p, q).is_err() {
             return Err(Stop::NoMemory);
         }
     }
     Ok(text)
+}
+
+// The dominance drawing of the file.
+fn dominance_in(alloc: Global, spec: &GraphSpec, graph: StGraph) -> Result<Dominance, NoMemory>
+    requires tables { IsConsistent spec.now }
+    requires found { IsFound spec.now graph }
+    requires high { spec.now.graph.vertices ≤ vertex_limit }
+    requires wide { length spec.now.graph.ends ≤ edge_limit }
+    ensures points { IfOk result (λ d. ArePoints spec.now graph d.points) }
+    ensures reaching { IfOk result (λ d. DecideReaching spec.now.graph d.points) }
+    ensures size { IfOk result (λ d. length d.points ≡ spec.now.graph.vertices) }
+{
+    let sides = Sides::of(alloc, &graph)?;
+    sides.facts();
+    dominance(alloc, graph, &sides, spec.names())
+}
+
+/// One line a pair, with the points of both vertices in the dominance drawing; or the first name that no vertex has.
+///
+/// Errors: `UnknownVertex`, `NoMemory`.
+/// Cost: O(V + E) time and memory for the points, O(1) for each pair, and the text. Not proved.
+pub fn answer_query(
+    alloc: Global,
+    spec: &GraphSpec,
+    graph: StGraph,
+    pairs: &[(i64, i64)],
+) -> Result<Text, Stop>
+    requires tables { IsConsistent spec.now }
+    requires found { IsFound spec.now graph }
+    requires high { spec.now.graph.vertices ≤ vertex_limit }
+    requires wide { length spec.now.graph.ends ≤ edge_limit }
+    ensures { Gives (AnswersQuery pairs.now spec.now graph) result }
+{
+    match dominance_in(alloc, spec, graph) {
+        Ok(drawn) => lines_of(alloc, spec, pairs, &drawn),
+        Err(NoMemory) => Err(Stop::NoMemory),
+    }
 }

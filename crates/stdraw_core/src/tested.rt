@@ -3,21 +3,12 @@ ghost use Rattle.std.specs.Prelude.{◌≡◌, ◌++◌, ◌<◌, length, OnOk};
 ghost use Rattle.stdraw_core.specs.Answer.{AnswersTest, test_line};
 ghost use Rattle.stdraw_core.specs.Stops.{Gives};
 
-use itoa::{Buffer, Integer};
+use crate::number::append_number;
 use st_ids::{NoMemory, Text};
 use st_input::GraphSpec;
 use st_report::Stop;
 use st_test::StGraph;
 use std::alloc::Global;
-
-// Appends a number in decimal and a text.
-fn append_number<I: Integer>(text: &mut Text, n: I, tail: &[u8]) -> Result<(), NoMemory>
-    ensures { OnOk result (text.new ≡ text.old ++ (I.text n ++ tail.now)) }
-{
-    let mut buffer = Buffer::new();
-    text.append(buffer.format(n).as_bytes())?;
-    text.append(tail)
-}
 
 // Appends the line.
 fn append_line(text: &mut Text, spec: &GraphSpec, graph: &StGraph) -> Result<(), NoMemory>

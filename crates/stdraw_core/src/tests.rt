@@ -18,6 +18,10 @@ const EDGE: &[u8] = b"graph [ node [ id 1 ] node [ id 2 ] edge [ source 1 target
 const CHORDS: &[u8] =
     b"graph [ node [ id 1 ] node [ id 2 ] node [ id 3 ] node [ id 4 ] edge [ source 1 target 2 ] edge [ source 2 target 4 ] edge [ source 2 target 3 ] edge [ source 1 target 3 ] edge [ source 3 target 4 ] ]\n";
 
+// One edge goes straight past both sides of a diamond.
+const CHORD: &[u8] =
+    b"graph [ node [ id 1 ] node [ id 2 ] node [ id 3 ] node [ id 4 ] edge [ source 1 target 2 ] edge [ source 2 target 4 ] edge [ source 1 target 4 ] edge [ source 1 target 3 ] edge [ source 3 target 4 ] ]\n";
+
 const PAIR: &[u8] =
     b"graph [ node [ id 1 ] node [ id 2 ] edge [ source 1 target 2 ] edge [ source 1 target 2 ] ]\n";
 
@@ -86,24 +90,35 @@ fn check(rt: &impl Abort, alloc: Global, row: &Row) -> Result<(), Fail> {
 #[test]
 fn says_which_vertex_reaches_which(rt: HostRuntime) -> Result<(), Fail> {
     let rows = [
-        done("query 2 3 1 4", DIAMOND, b"2 3 no\n1 4 yes\n"),
-        done("query 3 1", CHAIN, b"3 1 no\n"),
-        done("query +2 2", DIAMOND, b"2 2 yes\n"),
-        done("query 0 1", NESTED, b"0 1 yes\n"),
+        done(
+            "query 2 3 1 4 4 1 2 2",
+            DIAMOND,
+            b"2 3 no 0 1 1 0\n1 4 yes 0 0 1 1\n4 1 no 1 1 0 0\n2 2 yes 0 1 0 1\n",
+        ),
+        done("query 3 1 1 2", CHAIN, b"3 1 no 2 2 0 0\n1 2 yes 0 0 1 1\n"),
+        done("query +2 2", DIAMOND, b"2 2 yes 0 1 0 1\n"),
+        done("query 0 1", NESTED, b"0 1 yes 0 0 1 1\n"),
+        done(
+            "query 1 2 3 4",
+            CHORDS,
+            b"1 2 yes 0 0 0 1\n3 4 yes 1 1 1 2\n",
+        ),
+        done("query 2 3 1 4", CHORD, b"2 3 no 0 2 2 0\n1 4 yes 0 0 2 2\n"),
+        done("query 1 2", PAIR, b"1 2 yes 0 0 1 1\n"),
         done(
             "query 1 2",
             b"\xEF\xBB\xBFgraph [ node [ id 1 ] node [ id 2 ] edge [ source 1 target 2 ] ]\n# flow",
-            b"1 2 yes\n",
+            b"1 2 yes 0 0 1 1\n",
         ),
         done(
             "query 2 1",
             b"graph[directed 0 weight 1e5 node[id 2]node[id 1 label 7]edge[id 4 source 2 target 1]]",
-            b"2 1 yes\n",
+            b"2 1 yes 0 0 1 1\n",
         ),
         done(
             "query -1 1",
             b"graph [ node [ id -1 ] node [ id 1 ] edge [ source 1 target -1 ] ]",
-            b"-1 1 no\n",
+            b"-1 1 no 1 1 0 0\n",
         ),
     ];
     for row in &rows {
@@ -429,7 +444,7 @@ fn runs_over_a_reader_and_a_writer(rt: HostRuntime) -> Result<(), Fail> {
         run(alloc, &words, &mut src, &mut out, &mut diag),
         Status::Done
     );
-    assert_eq!(rt; bytes.as_slice(), b"1 2 yes\n".as_slice());
+    assert_eq!(rt; bytes.as_slice(), b"1 2 yes 0 0 1 1\n".as_slice());
     Ok(())
 }
 

@@ -7,7 +7,7 @@ ghost use Rattle.stdraw_core.specs.Answer.{Answers, AnswersGraph, AnswersFile, b
 ghost use Rattle.stdraw_core.specs.Run.{Decides, EndsBy};
 ghost use Rattle.stdraw_core.specs.Stops.{Gives};
 ghost use Rattle.stdraw_core.specs.Verdict.{IsFound};
-ghost use Rattle.stdraw_core.specs.Headline.{Headline};
+ghost use Rattle.stdraw_core.specs.Headline.{Headline, QueryHeadline};
 
 use crate::drawing::answer_draw;
 use crate::file::{graph_of, tree_of};
@@ -50,7 +50,7 @@ fn answer_command(
     ensures { Gives (Answers command.now spec.now graph) result }
 {
     match command {
-        Command::Query(pairs) => as_output(answer_query(alloc, spec, pairs.items())),
+        Command::Query(pairs) => as_output(answer_query(alloc, spec, graph, pairs.items())),
         Command::Test => as_output(answer_test(alloc, spec, &graph)),
         Command::Draw(form) => answer_draw(alloc, *form, spec, graph),
     }
@@ -141,8 +141,8 @@ fn perform<S: Source, K: Sink, D: Sink>(
 /// `Done`, the diagnostic line with every other status. A fault of `diag` changes nothing.
 ///
 /// Errors: each status of `Status` but those of commands that are not built yet.
-/// Cost: near linear time in the file, and for `query` O(V + E) for each pair besides; for each pair of the file about
-/// 100 to 170 bytes of memory, and the file itself. Not proved.
+/// Cost: near linear time in the file, and O(1) for each pair of a query; for each pair of the file about 100 to 170 bytes of
+/// memory, and the file itself. Not proved.
 pub fn run<S: Source, K: Sink, D: Sink>(
     alloc: Global,
     words: &[String],
@@ -152,8 +152,9 @@ pub fn run<S: Source, K: Sink, D: Sink>(
 ) -> Status
     ensures ending { EndsBy (map string_bytes words.now) (S.state src.old) (S.state src.new) (K.state out.old) (K.state out.new) (D.state diag.old) (D.state diag.new) result }
 
-    // The promise of every drawing.
+    // The promise of every drawing, and of every query.
     ensures headline { Headline (map string_bytes words.now) (S.state src.old) (S.state src.new) (K.state out.old) (K.state out.new) result }
+    ensures query { QueryHeadline (map string_bytes words.now) (S.state src.old) (S.state src.new) (K.state out.old) (K.state out.new) result }
 
     // What is left as it was.
     ensures words { result ≡ Status.Words → src.new ≡ src.old }

@@ -1,8 +1,7 @@
-use Rattle.std.proofs.Common.{◌≡◌, ◌≤◌, length, ap, ◌∙◌, sym, subst, arith}
-use Rattle.st_sides.specs.Sides.{edge_count}
+use Rattle.std.proofs.Common.{sym, subst}
 use Rattle.st_picture.specs.Naming.{AreNames}
 use Rattle.stdraw_core.proofs.DrawingLemmas.{names_meet, edges_within, names_are}
-use Rattle.stdraw_core.specs.Drawing.{file_names, IsPictureOf}
+use Rattle.stdraw_core.specs.Drawing.{IsPictureOf}
 use Rattle.stdraw_core.proofs.drawing.answer_draw.Goals as goal
 
 pub picture_of-requires-clause-names : goal.picture_of-requires-clause-names

@@ -1,7 +1,3 @@
-use Rattle.std.proofs.Common.{◌≡◌, ◌<◌, ◌≤◌, ℕ, arith}
-use Rattle.std.specs.Prelude.{Result, Ok, Err, IfOk}
-use Rattle.st_ids.specs.declared.ids.EdgeId.{EdgeId}
-use Rattle.st_number.specs.Weighing.{WeightsValue, IsLawful}
 use Rattle.st_sides.specs.Sides.{edge_count}
 use Rattle.stdraw_core.proofs.DrawingLemmas.{all_ones, if_ok, visibility_by_ones, tessellation_by_ones}
 use Rattle.stdraw_core.proofs.drawing.picture_of.Goals as goal

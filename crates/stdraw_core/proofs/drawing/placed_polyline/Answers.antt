@@ -1,4 +1,4 @@
-use Rattle.std.proofs.Common.{◌≤◌, arith}
+use Rattle.std.proofs.Common.{arith}
 use Rattle.stdraw_core.proofs.DrawingLemmas.{if_ok, placed_polyline}
 use Rattle.stdraw_core.proofs.drawing.placed_polyline.Goals as goal
 

@@ -1,5 +1,4 @@
-use Rattle.std.proofs.Common.{length, ap, sym, ◌∙◌}
-use Rattle.st_sides.specs.Sides.{edge_count}
+use Rattle.std.proofs.Common.{sym, ◌∙◌}
 use Rattle.stdraw_core.proofs.DrawingLemmas.{edges_are}
 use Rattle.stdraw_core.proofs.drawing.polyline_of.Goals as goal
 

@@ -1,10 +1,10 @@
 use Rattle.std.proofs.Common.{ℤ, ◌+◌, ◌<◌, List, length, get_or, take, drop, pos, sym, subst, arith, rules, zero, w64, FitsSigned, to_z, of_z}
 use Rattle.std.proofs.lemmas.Int.{to_z-of_z}
-use Rattle.stdraw_core.specs.Answer.{AnswersQuery}
+use Rattle.stdraw_core.specs.Answer.{AnswersPairs}
 use Rattle.stdraw_core.specs.Query.{IsFirstUnknown, names_of, no_line}
 use Rattle.stdraw_core.specs.Stops.{IsStop}
 use Rattle.stdraw_core.proofs.QueryLemmas.{AreAnswered, answered_push, stops_first, stops_second, split_at, take_push}
-use Rattle.stdraw_core.proofs.query.answer_query.Goals as goal
+use Rattle.stdraw_core.proofs.query.lines_of.Goals as goal
 
 pub loop-i-init : goal.loop-i-init
 loop-i-init c = record { known = tt; lines = no_line c.new-text.ensures }
@@ -13,7 +13,7 @@ pub returns-in_default : goal.returns-in_default
 returns-in_default c =
     let there : c.loop-i.i < length c.args.pairs.now = omega arith in
     let fit : FitsSigned w64 (get_or c.args.pairs.now c.loop-i.i (pos zero, pos zero)).0 = search rules in
-    subst (λ s. IsStop (AnswersQuery c.args.pairs.now c.args.spec.now) s) (sym c.unknown.ensures)
+    subst (λ s. IsStop (AnswersPairs c.args.pairs.now c.args.spec.now c.args.drawn.now.points) s) (sym c.unknown.ensures)
     (subst (λ (z : List (ℤ × ℤ)). IsFirstUnknown c.args.spec.now (names_of z) (to_z w64 (of_z w64 (get_or c.args.pairs.now c.loop-i.i (pos zero, pos zero)).0))) (sym (split_at c.args.pairs.now c.loop-i.i (pos zero, pos zero) there))
     (stops_first c.args.spec.now (take c.loop-i.i c.args.pairs.now) (drop (c.loop-i.i + 1) c.args.pairs.now) (get_or c.args.pairs.now c.loop-i.i (pos zero, pos zero)) _
     (to_z-of_z w64 (get_or c.args.pairs.now c.loop-i.i (pos zero, pos zero)).0 fit) c.loop-i.invariant.known c.in_default.ensures.vertex))
@@ -23,7 +23,7 @@ returns-in_default-vertex_of c =
     let there : c.loop-i.i < length c.args.pairs.now = omega arith in
     let fit : FitsSigned w64 (get_or c.args.pairs.now c.loop-i.i (pos zero, pos zero)).0 = search rules in
     let fit' : FitsSigned w64 (get_or c.args.pairs.now c.loop-i.i (pos zero, pos zero)).1 = search rules in
-    subst (λ s. IsStop (AnswersQuery c.args.pairs.now c.args.spec.now) s) (sym c.unknown-in_default-vertex_of.ensures)
+    subst (λ s. IsStop (AnswersPairs c.args.pairs.now c.args.spec.now c.args.drawn.now.points) s) (sym c.unknown-in_default-vertex_of.ensures)
     (subst (λ (z : List (ℤ × ℤ)). IsFirstUnknown c.args.spec.now (names_of z) (to_z w64 (of_z w64 (get_or c.args.pairs.now c.loop-i.i (pos zero, pos zero)).1))) (sym (split_at c.args.pairs.now c.loop-i.i (pos zero, pos zero) there))
     (stops_second c.args.spec.now (take c.loop-i.i c.args.pairs.now) (drop (c.loop-i.i + 1) c.args.pairs.now) (get_or c.args.pairs.now c.loop-i.i (pos zero, pos zero)) _ _
     (to_z-of_z w64 (get_or c.args.pairs.now c.loop-i.i (pos zero, pos zero)).0 fit) (to_z-of_z w64 (get_or c.args.pairs.now c.loop-i.i (pos zero, pos zero)).1 fit')
@@ -34,9 +34,16 @@ loop-i-preserved c =
     let there : c.loop-i.i < length c.args.pairs.now = omega arith in
     let fit : FitsSigned w64 (get_or c.args.pairs.now c.loop-i.i (pos zero, pos zero)).0 = search rules in
     let fit' : FitsSigned w64 (get_or c.args.pairs.now c.loop-i.i (pos zero, pos zero)).1 = search rules in
-    let reaches = rw c.graph-graph.ensures at c.in-Ok-reaches.ensures in
-    subst (λ (z : List (ℤ × ℤ)). AreAnswered c.args.spec.now z c.append_line.new.text) (sym (take_push c.args.pairs.now c.loop-i.i (pos zero, pos zero) there))
-    (answered_push c.args.spec.now (take c.loop-i.i c.args.pairs.now) (get_or c.args.pairs.now c.loop-i.i (pos zero, pos zero)) c.loop-i.text c.append_line.new.text _ _ c.in-Some.u.0 c.in-Some-vertex_of.v.0 c.in-Ok-reaches.reached
+    subst (λ (z : List (ℤ × ℤ)). AreAnswered c.args.spec.now c.args.drawn.now.points z c.append_line.new.text) (sym (take_push c.args.pairs.now c.loop-i.i (pos zero, pos zero) there))
+    (answered_push c.args.spec.now c.args.drawn.now.points (take c.loop-i.i c.args.pairs.now) (get_or c.args.pairs.now c.loop-i.i (pos zero, pos zero)) c.loop-i.text c.append_line.new.text _ _
+    c.in-Some.u.0 c.in-Some-vertex_of.v.0 c.reaches-reached.result c.point-p.result c.point-q.result
     c.loop-i.invariant (to_z-of_z w64 (get_or c.args.pairs.now c.loop-i.i (pos zero, pos zero)).0 fit) (to_z-of_z w64 (get_or c.args.pairs.now c.loop-i.i (pos zero, pos zero)).1 fit')
-    (record { from = c.in-Some.ensures.vertex; to = c.in-Some-vertex_of.ensures.vertex; only_from = λ w h. c.requires w c.in-Some.u.0 _ h c.in-Some.ensures.vertex; only_to = λ w h. c.requires w c.in-Some-vertex_of.v.0 _ h c.in-Some-vertex_of.ensures.vertex; reaches = reaches })
+    (record {
+      from = c.in-Some.ensures.vertex;
+      to = c.in-Some-vertex_of.ensures.vertex;
+      at_most = c.reaches-reached.ensures;
+      decides = c.requires.reaching c.in-Some.u.0 c.in-Some-vertex_of.v.0 c.in-Some.ensures.within c.in-Some-vertex_of.ensures.within;
+      first = c.point-p.ensures;
+      second = c.point-q.ensures;
+    })
     (search rules))
