@@ -146,7 +146,7 @@ ins_within v e x (a ∷ ends) i = elim (in_append (ins v (e + 1) ends) i) [
   | inr h ↦ let same : x ≡ e = one_is (eqb a.1 v) e x h in omega arith
 ]
 
-default_within : (ends : List (ℕ × ℕ)) (v x : ℕ) → In x (default_order ends v) → x < length ends
+pub default_within : (ends : List (ℕ × ℕ)) (v x : ℕ) → In x (default_order ends v) → x < length ends
 default_within ends v x i = elim (in_append (outs v 0 ends) i) [
   | inl h ↦ let more = outs_within v 0 x ends h in omega arith
   | inr h ↦ let more = ins_within v 0 x ends h in omega arith

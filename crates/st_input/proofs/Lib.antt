@@ -5,3 +5,4 @@ pub mod PathLemmas
 pub mod Fills
 pub mod BuildLemmas
 pub mod LawLemmas
+pub mod PlainLemmas

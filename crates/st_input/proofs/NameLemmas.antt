@@ -120,7 +120,7 @@ positions_get (suc n) k d lt = elim (cases_lt k n) [
       get_or_push (positions n) (pos n) d k last ∙ ap (λ (i : ℕ). pos i) same
 ]
 
-other_pos : (j k : ℕ) → j ≢ k → int_eq (pos j) (pos k) ≡ false
+pub other_pos : (j k : ℕ) → j ≢ k → int_eq (pos j) (pos k) ≡ false
 other_pos j k differ = decided_false (int_eq (pos j) (pos k)) (pos j ≡ pos k) (Decides-int_eq (pos j) (pos k)) (λ e. differ (cc))
 
 other_neg : (j k : ℕ) → int_eq (negsuc j) (pos k) ≡ false

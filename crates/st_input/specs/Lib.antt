@@ -11,4 +11,5 @@ pub mod Embedding
 pub mod FirstFault
 pub mod GraphSpec
 pub mod Found
+pub mod Plain
 pub mod Laws

@@ -170,7 +170,7 @@ fn look_up(
     })
 }
 
-fn assemble(
+pub(crate) fn assemble(
     graph: Digraph,
     names: Names,
     orders: IdVec<VertexId, EdgeList>,

@@ -12,6 +12,7 @@ mod orders;
 mod outer;
 mod parts;
 mod paths;
+mod plain;
 mod tables;
 mod used;
 

@@ -92,7 +92,7 @@ fn fill_ins(
 }
 
 #[tactic(auto, using(crate::proofs::Fills::filled_twice))]
-fn fill_free(
+pub(crate) fn fill_free(
     alloc: Global,
     orders: &mut IdVec<VertexId, EdgeList>,
     free: &IdVec<VertexId, bool>,

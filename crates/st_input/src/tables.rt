@@ -62,7 +62,7 @@ fn ids_table(alloc: Global, edges: &[Edge]) -> Result<IdVec<EdgeId, i64>, NoMemo
 }
 
 #[tactic(auto, using(crate::proofs::NameLemmas::positions_more), unfolding(crate::specs::Names::positions))]
-fn positions_table(alloc: Global, n: usize) -> Result<IdVec<EdgeId, i64>, NoMemory>
+pub(crate) fn positions_table(alloc: Global, n: usize) -> Result<IdVec<EdgeId, i64>, NoMemory>
     requires { n < 2 ^ 31 }
     ensures { IfOk result (λ ns. ns ≡ positions n) }
 {
