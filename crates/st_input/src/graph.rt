@@ -73,6 +73,7 @@ impl GraphSpec {
 
         // There is one of each, the vertex names differ, and what is to be shown can be shown.
         ensures vertices { length self.now.vertex_names ≡ self.now.graph.vertices }
+        ensures few { length self.now.vertex_names < 2 ^ 30 }
         ensures edges { length self.now.edge_names ≡ length self.now.graph.ends }
         ensures labels { length self.now.labels ≡ self.now.graph.vertices }
         ensures different { AreDifferent self.now.vertex_names }

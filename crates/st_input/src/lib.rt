@@ -18,12 +18,13 @@ mod used;
 
 pub use fault::{PathNameFault, ShapeFault};
 pub use graph::{GraphSpec, read_graph};
+pub use plain::plain_tree;
 
 #[cfg(test)]
 mod tests {
     use super::*;
-    use gml_core::parse;
-    use st_ids::{Dart, EdgeId, VertexId};
+    use gml_core::{parse, print};
+    use st_ids::{Dart, Digraph, EdgeId, Text, VertexId};
     use std::alloc::Global;
     use std::test::Fail;
 
@@ -198,6 +199,28 @@ mod tests {
             let said = paths_said(alloc, text)?;
             assert_eq!(rt; said.as_str(), expected);
         }
+        Ok(())
+    }
+
+    /// The text of a plain graph with three vertices and three edges.
+    fn plain_text(alloc: Global) -> Result<Text, Fail> {
+        let mut graph = Digraph::new(alloc);
+        graph.add_vertices(3);
+        graph.add_edge(VertexId(0), VertexId(1))?;
+        graph.add_edge(VertexId(0), VertexId(2))?;
+        graph.add_edge(VertexId(2), VertexId(1))?;
+        let spec = GraphSpec::plain(alloc, graph)?;
+        let tree = plain_tree(alloc, &spec)?;
+        Ok(print(alloc, &tree)?)
+    }
+
+    #[test]
+    fn a_plain_graph_is_printed(rt: HostRuntime) -> Result<(), Fail> {
+        let text = plain_text(rt.alloc())?;
+        assert_eq!(rt;
+            text.bytes(),
+            b"graph [\ndirected 1\nnode [\nid 1\n]\nnode [\nid 2\n]\nnode [\nid 3\n]\nedge [\nsource 1\ntarget 2\n]\nedge [\nsource 1\ntarget 3\n]\nedge [\nsource 3\ntarget 2\n]\n]\n".as_slice()
+        );
         Ok(())
     }
 }
