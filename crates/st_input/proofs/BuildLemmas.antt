@@ -13,7 +13,7 @@ use Rattle.st_input.specs.declared.parts.Edge.{Edge}
 use Rattle.st_input.specs.declared.parts.Parts.{Parts}
 use Rattle.st_input.proofs.Fills.{full_is}
 
-abbrev made : Graph → List ℤ → List ℤ → List (Option (List ℕ)) → List (List ℕ) → Option ℕ → List (List ℤ) → InputGraph
+abbrev pub made : Graph → List ℤ → List ℤ → List (Option (List ℕ)) → List (List ℕ) → Option ℕ → List (List ℤ) → InputGraph
 made g vs es ls os o ps = record { graph = g; vertex_names = vs; edge_names = es; labels = ls; orders = os; outer = o; paths = ps }
 
 same_made : (g h : Graph) (vs ws es fs : List ℤ) (ls : List (Option (List ℕ))) (os rs : List (List ℕ)) (o q : Option ℕ) (ps : List (List ℤ)) → g ≡ h → vs ≡ ws → es ≡ fs → os ≡ rs → o ≡ q → made g vs es ls os o ps ≡ made h ws fs ls rs q ps

@@ -38,7 +38,7 @@ fresh_name before at (Some name) e = by (is_among before name) (SameId name) e
     by true f e = absurd (cc)
     by false f e = refl
 
-names_push : (ns : List Node) (n : Node) → node_names (ns ++ n ∷ []) ≡ node_names ns ++ node_name n ∷ []
+pub names_push : (ns : List Node) (n : Node) → node_names (ns ++ n ∷ []) ≡ node_names ns ++ node_name n ∷ []
 names_push [] n = refl
 names_push (m ∷ ns) n = ap (λ (zs : List ℤ). node_name m ∷ zs) (names_push ns n)
 

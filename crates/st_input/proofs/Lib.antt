@@ -6,3 +6,4 @@ pub mod Fills
 pub mod BuildLemmas
 pub mod LawLemmas
 pub mod PlainLemmas
+pub mod ReadBack

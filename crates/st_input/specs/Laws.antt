@@ -1,11 +1,15 @@
 -- What the definitions say together.
 --   FitsTogether   the tables of the graph of a text without a fault fit together
 --   KeepsLimits    a graph that is accepted is within the limits
+--   ReadsBack      the file of a plain graph is read again as that graph, whatever the places of its pairs
 use Rattle.std.specs.Prelude.{◌≡◌, ◌<◌, ◌≤◌, ◌^◌, ℕ, length, None, Some}
+use Rattle.st_ids.specs.Graph.{Graph, HasEnds}
 use Rattle.gml_core.specs.Trees.{Entries}
+use Rattle.gml_core.specs.Printing.{at_zero}
 use Rattle.st_input.specs.InputGraph.{InputGraph, IsConsistent}
 use Rattle.st_input.specs.Embedding.{embedded_graph}
 use Rattle.st_input.specs.FirstFault.{shape_fault}
+use Rattle.st_input.specs.Plain.{plain_graph, plain_entries}
 
 -- the tables of the graph of a text without a fault fit together
 abbrev pub FitsTogether : Type 0
@@ -14,3 +18,7 @@ FitsTogether = (text : Entries) (max_n max_m : ℕ) (g : InputGraph) → max_n <
 -- the graph of a text without a fault has no more vertices and edges than the limits
 abbrev pub KeepsLimits : Type 0
 KeepsLimits = (text : Entries) (max_n max_m : ℕ) (g : InputGraph) → shape_fault text max_n max_m ≡ None → embedded_graph text ≡ Some g → (g.graph.vertices ≤ max_n) × (length g.graph.ends ≤ max_m)
+
+-- a text with the pairs of a plain graph within the limits, at any places, has no fault, and its graph is that one
+abbrev pub ReadsBack : Type 0
+ReadsBack = (g : Graph) (text : Entries) (max_n max_m : ℕ) → HasEnds g → g.vertices ≤ max_n → length g.ends ≤ max_m → at_zero text ≡ at_zero (plain_entries (plain_graph g)) → (shape_fault text max_n max_m ≡ None) × (embedded_graph text ≡ Some (plain_graph g))

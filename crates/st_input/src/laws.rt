@@ -1,5 +1,5 @@
 //! What the definitions say together. Each function does nothing, and its contract is a law.
-ghost use Rattle.st_input.specs.Laws.{FitsTogether, KeepsLimits};
+ghost use Rattle.st_input.specs.Laws.{FitsTogether, KeepsLimits, ReadsBack};
 
 /// The tables of the graph of a text without a fault fit together: one name, one label and one order for each vertex,
 /// one name for each edge, different names, labels that can be shown, and orders that list edges of the graph alone.
@@ -10,4 +10,10 @@ pub fn tables_fit_together()
 /// The graph of a text without a fault has no more vertices and no more edges than the limits allow.
 pub fn limits_hold()
     ensures { KeepsLimits }
+{}
+
+/// The tree of a plain graph is read again as that graph, whatever the places of its pairs, where the graph is within
+/// the limits. What `parse` answers of the printed tree differs from the tree in places alone.
+pub fn reads_back()
+    ensures { ReadsBack }
 {}
