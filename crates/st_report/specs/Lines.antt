@@ -13,8 +13,10 @@ use Rattle.st_report.specs.declared.stop.Status.{Status}
 use Rattle.st_report.specs.declared.stop.Status.TheVariants as status
 use Rattle.st_report.specs.declared.stop.NotSt.TheVariants as not_st
 use Rattle.st_report.specs.declared.stop.NotSt.{NotSt as Why}
+use Rattle.st_report.specs.declared.stop.BadPath.{BadPath}
+use Rattle.st_report.specs.declared.stop.BadPath.TheVariants as bad_path
 use Rattle.st_report.specs.declared.stop.Refusal.{Refusal}
-use Rattle.st_report.specs.declared.stop.Refusal.TheVariants.{Words, TooManyBytes, Gml, Shape, NotSt, UnknownVertex}
+use Rattle.st_report.specs.declared.stop.Refusal.TheVariants.{Words, TooManyBytes, Gml, Shape, NotSt, Path, UnknownVertex}
 use Rattle.st_report.specs.declared.stop.Stop.{Stop}
 use Rattle.st_report.specs.declared.stop.Stop.TheVariants as stop
 
@@ -47,6 +49,7 @@ status_of TooManyBytes = status.Limit
 status_of (Gml fault) = status.Gml
 status_of (Shape fault) = shape_status fault
 status_of (NotSt why) = status.NotSt
+status_of (Path fault) = status.Path
 status_of (UnknownVertex name) = status.UnknownVertex
 
 abbrev pub stop_status : Stop → Status
@@ -123,12 +126,20 @@ not_st_line (not_st.BadOrder vertex) = numbered (codes "not st: order at vertex 
 not_st_line (not_st.BadFaces v e f) = faces_line v e f
 not_st_line (not_st.Outer a b) = missed a b
 
+-- which path, and what is wrong with it
+abbrev pub path_line : BadPath → List ℕ
+path_line (bad_path.UnknownEdge path name) = numbered (codes "path: ") (pos path) (codes " names unknown edge ") ++ numbered [] name (codes "\n")
+path_line (bad_path.NotAPath path) = numbered (codes "path: ") (pos path) (codes " is no directed path\n")
+path_line (bad_path.SharedEdge path edge) = numbered (codes "path: ") (pos path) (codes " shares edge ") ++ numbered [] edge (codes "\n")
+path_line (bad_path.Crossing path other vertex) = numbered (codes "path: ") (pos path) (codes " crosses path ") ++ (numbered [] (pos other) (codes " at vertex ") ++ numbered [] vertex (codes "\n"))
+
 abbrev pub line_of : Refusal → List ℕ
 line_of Words = codes "words: not a command of stdraw\n"
 line_of TooManyBytes = codes "limit: more than 16777216 bytes\n"
 line_of (Gml fault) = gml_line fault
 line_of (Shape fault) = shape_line fault
 line_of (NotSt why) = not_st_line why
+line_of (Path fault) = path_line fault
 line_of (UnknownVertex name) = numbered (codes "unknown vertex: ") name (codes "\n")
 
 abbrev pub stop_line : Stop → List ℕ

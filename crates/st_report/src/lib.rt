@@ -7,5 +7,5 @@
 mod stop;
 mod telling;
 
-pub use stop::{NameList, NotSt, Refusal, Status, Stop};
+pub use stop::{BadPath, NameList, NotSt, Refusal, Status, Stop};
 pub use telling::report;

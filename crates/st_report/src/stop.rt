@@ -149,6 +149,20 @@ pub enum NotSt {
     },
 }
 
+/// Why the paths of a file can't be drawn in one column each: the first fault, in the names of the file. Paths are told by
+/// their places, from 0.
+#[derive(Clone, Copy, Debug, PartialEq, Eq)]
+pub enum BadPath {
+    /// A name in the path is that of no edge.
+    UnknownEdge { path: u32, name: i64 },
+    /// The path has no edge, or one that doesn't begin where the one before it ends.
+    NotAPath { path: u32 },
+    /// This edge of the path is in an earlier path too.
+    SharedEdge { path: u32, edge: i64 },
+    /// The path crosses this other one, an earlier one, at this vertex.
+    Crossing { path: u32, other: u32, vertex: i64 },
+}
+
 /// What words and bytes answer in place of an output.
 #[derive(Debug, Drop)]
 pub enum Refusal {
@@ -162,6 +176,8 @@ pub enum Refusal {
     Shape(ShapeFault),
     /// The graph is no planar st-graph.
     NotSt(NotSt),
+    /// The paths of the file can't be drawn in one column each.
+    Path(BadPath),
     /// The first name in the words that is the name of no vertex.
     UnknownVertex(i64),
 }
@@ -179,6 +195,7 @@ impl Refusal {
             Refusal::Shape(ShapeFault::TooManyEdges { .. }) => Status::Limit,
             Refusal::Shape(_) => Status::Gml,
             Refusal::NotSt(_) => Status::NotSt,
+            Refusal::Path(_) => Status::Path,
             Refusal::UnknownVertex(_) => Status::UnknownVertex,
         }
     }
@@ -195,6 +212,17 @@ pub enum Stop {
     WriteFault,
     /// Memory ran out.
     NoMemory,
+}
+
+impl From<NoMemory> for Stop {
+    ghost use Rattle.std.specs.Prelude.{◌≡◌};
+    ghost use Rattle.st_report.specs.declared.stop.Stop.TheVariants.{NoMemory as no_memory};
+
+    ghost from_gives = { λ _ s. s ≡ no_memory };
+
+    fn from(_e: NoMemory) -> Stop {
+        Stop::NoMemory
+    }
 }
 
 impl Stop {

@@ -4,10 +4,10 @@
 ghost use Rattle.std.specs.Prelude.{◌≡◌, ◌++◌, OnOk, OnErr, IsTrue};
 ghost use Rattle.st_port.specs.Faults.{Rose, GoesOn};
 ghost use Rattle.st_port.specs.Streams.{Gains, GainsFront};
-ghost use Rattle.st_report.specs.Lines.{gml_line, shape_line, names_line, several_line, faces_line, cycle_line, not_st_line, line_of, stop_line, stop_status};
+ghost use Rattle.st_report.specs.Lines.{gml_line, shape_line, names_line, several_line, faces_line, cycle_line, not_st_line, path_line, line_of, stop_line, stop_status};
 ghost use Rattle.st_report.specs.Telling.{Tells};
 
-use crate::stop::{NotSt, Refusal, Status, Stop};
+use crate::stop::{BadPath, NotSt, Refusal, Status, Stop};
 use gml_core::GmlFault;
 use itoa::{Buffer, Integer};
 use st_input::ShapeFault;
@@ -222,6 +222,55 @@ fn write_not_st<D: Sink>(diag: &mut D, why: &NotSt) -> Result<(), Failed>
     }
 }
 
+// Writes the line of two paths that cross.
+fn write_crossing<D: Sink>(diag: &mut D, path: u32, other: u32, vertex: i64) -> Result<(), Failed>
+    ensures whole { OnOk result (Gains (D.state diag.old) (D.state diag.new) (path_line (BadPath.Crossing path other vertex))) }
+    ensures prefix { OnErr result (GainsFront (D.state diag.old) (D.state diag.new) (path_line (BadPath.Crossing path other vertex))) }
+    ensures count { GoesOn (D.state diag.old).faults (D.state diag.new).faults }
+    ensures cause { OnErr result (Rose (D.state diag.old).faults (D.state diag.new).faults) }
+{
+    write_number(diag, b"path: ", path, b" crosses path ")?;
+    write_numbers(diag, b"", other, b" at vertex ", vertex, b"\n")
+}
+
+// Writes the line of a path that can't be drawn.
+fn write_path<D: Sink>(diag: &mut D, fault: BadPath) -> Result<(), Failed>
+    ensures whole { OnOk result (Gains (D.state diag.old) (D.state diag.new) (path_line fault)) }
+    ensures prefix { OnErr result (GainsFront (D.state diag.old) (D.state diag.new) (path_line fault)) }
+    ensures count { GoesOn (D.state diag.old).faults (D.state diag.new).faults }
+    ensures cause { OnErr result (Rose (D.state diag.old).faults (D.state diag.new).faults) }
+{
+    match fault {
+        BadPath::UnknownEdge { path, name } => write_numbers(
+            diag,
+            b"path: ",
+            path,
+            b" names unknown edge ",
+            name,
+            b"\n",
+        ),
+        BadPath::NotAPath { path } => write_number(
+            diag,
+            b"path: ",
+            path,
+            b" is no directed path\n",
+        ),
+        BadPath::SharedEdge { path, edge } => write_numbers(
+            diag,
+            b"path: ",
+            path,
+            b" shares edge ",
+            edge,
+            b"\n",
+        ),
+        BadPath::Crossing {
+            path,
+            other,
+            vertex,
+        } => write_crossing(diag, path, other, vertex),
+    }
+}
+
 // Writes the line of a refusal.
 fn write_refusal<D: Sink>(diag: &mut D, refusal: &Refusal) -> Result<(), Failed>
     ensures whole { OnOk result (Gains (D.state diag.old) (D.state diag.new) (line_of refusal.now)) }
@@ -235,6 +284,7 @@ fn write_refusal<D: Sink>(diag: &mut D, refusal: &Refusal) -> Result<(), Failed>
         Refusal::Gml(fault) => write_gml(diag, fault),
         Refusal::Shape(fault) => write_shape(diag, fault),
         Refusal::NotSt(why) => write_not_st(diag, why),
+        Refusal::Path(fault) => write_path(diag, *fault),
         Refusal::UnknownVertex(name) => write_number(diag, b"unknown vertex: ", *name, b"\n"),
     }
 }

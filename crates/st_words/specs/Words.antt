@@ -9,7 +9,7 @@ use Rattle.std.specs.Str.Parse.{IsNumeral, signed_digits_value, without_leading_
 use Rattle.st_words.specs.declared.words.Command.{Command}
 use Rattle.st_words.specs.declared.words.Command.TheVariants.{Query, Test, Draw}
 use Rattle.st_words.specs.declared.words.DrawForm.{DrawForm}
-use Rattle.st_words.specs.declared.words.DrawForm.TheVariants.{Visibility, Tessellation, Polyline, Dominance}
+use Rattle.st_words.specs.declared.words.DrawForm.TheVariants.{Visibility, Tessellation, Constrained, Polyline, Dominance}
 use Rattle.st_words.specs.declared.words.Spot.{Spot}
 use Rattle.st_words.specs.declared.words.Spot.TheVariants.{Left, Middle, Right}
 
@@ -39,6 +39,7 @@ spot_word Right = codes "right"
 abbrev pub form_words : DrawForm → List (List ℕ)
 form_words Visibility = codes "visibility" ∷ []
 form_words Tessellation = codes "tessellation" ∷ []
+form_words Constrained = codes "constrained" ∷ []
 form_words (Polyline spot) = codes "polyline" ∷ spot_word spot ∷ []
 form_words Dominance = codes "dominance" ∷ []
 

@@ -68,6 +68,8 @@ pub enum DrawForm {
     Visibility,
     /// Boxes for edges, which tile the frame.
     Tessellation,
+    /// As visibility, with the edges of each path of the file in one upright line.
+    Constrained,
     /// Dots for vertices, lines with two bends at most for edges.
     Polyline(Spot),
     /// Dots whose points tell reaching, straight lines for edges.
@@ -138,6 +140,9 @@ fn simple_form(word: &String) -> Option<DrawForm>
     }
     if word.as_str() == "tessellation" {
         return Some(DrawForm::Tessellation);
+    }
+    if word.as_str() == "constrained" {
+        return Some(DrawForm::Constrained);
     }
     if word.as_str() == "dominance" {
         return Some(DrawForm::Dominance);

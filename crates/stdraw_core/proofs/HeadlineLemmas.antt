@@ -7,22 +7,22 @@ use Rattle.st_port.specs.Faults.{Rose}
 use Rattle.st_port.specs.Streams.{SourceState, SinkState}
 use Rattle.st_shape.specs.Rules.{Drawing}
 use Rattle.st_sides.specs.Sides.{SidesValue, IsSides}
-use Rattle.st_sides.specs.SidesOf.{IsSidesOf}
 use Rattle.st_sides.proofs.MeaningLemmas.{meaning_law}
 use Rattle.st_sides.proofs.NormalLemmas.{order_law}
 use Rattle.st_ids.specs.declared.names.Names.{Names}
 use Rattle.st_picture.specs.Naming.{AreNames}
-use Rattle.st_test.specs.Planar.{IsPlanarSt, StValue}
+use Rattle.st_test.specs.Planar.{StValue}
 use Rattle.st_test.specs.PolesAnswer.{OnePolesAnswer}
 use Rattle.draw_vis.proofs.NumberLemmas.{visibility_drawn}
 use Rattle.draw_vis.proofs.TileLemmas.{tessellation_drawn}
 use Rattle.draw_poly.proofs.NumberLemmas.{polyline_drawn}
 use Rattle.stdraw_core.proofs.PolylineLemmas.{long}
 use Rattle.stdraw_core.proofs.DominanceLemmas.{right_dominance}
+use Rattle.stdraw_core.proofs.PathLemmas.{drawn_valid, right_aligned, valid_not_refused}
 use Rattle.st_words.specs.declared.words.Command.{Command}
 use Rattle.st_words.specs.declared.words.Command.TheVariants.{Draw, Query}
 use Rattle.st_words.specs.declared.words.DrawForm.{DrawForm}
-use Rattle.st_words.specs.declared.words.DrawForm.TheVariants.{Visibility, Tessellation, Polyline, Dominance}
+use Rattle.st_words.specs.declared.words.DrawForm.TheVariants.{Visibility, Tessellation, Constrained, Polyline, Dominance}
 use Rattle.st_report.specs.declared.stop.Refusal.{Refusal}
 use Rattle.st_report.specs.declared.stop.Status.{Status}
 use Rattle.st_report.specs.declared.stop.Status.TheVariants as status
@@ -32,7 +32,8 @@ use Rattle.stdraw_core.specs.Headline.{IsPlanarFile, HeadlineFor, Headline, Quer
 use Rattle.stdraw_core.specs.Query.{names_of}
 use Rattle.stdraw_core.specs.Run.{IsTold, IsDone, EndsBy}
 use Rattle.stdraw_core.specs.Stages.{Then, refuses, goes_on, IsOne}
-use Rattle.stdraw_core.specs.Verdict.{IsAccepted}
+use Rattle.stdraw_core.specs.Paths.{AreSidesIn}
+use Rattle.stdraw_core.specs.Verdict.{IsAccepted, IsFound}
 use Rattle.st_words.specs.Words.{IsCommand}
 use Rattle.stdraw_core.proofs.DrawingLemmas.{found, names_meet}
 use Rattle.stdraw_core.proofs.OneAnswer.{asks_one, few_one, tree_one, graph_one, consistent, query_err, known_unknown}
@@ -95,11 +96,12 @@ output_of command bytes out h =
     }
 
 -- ---- the picture is right
-right_picture : (form : DrawForm) (st : StValue) (x : SidesValue) → IsPlanarSt st.map.graph st.source st.sink st.outer → IsSidesOf st.map.graph st.source st.sink st.outer x → IsSides x → (N : Names) → AreNames x N → (d : Drawing) → IsPictureOf form st x N d → IsRightPicture form x d
-right_picture Visibility st x planar of is N names d h = visibility_drawn x is one_each (λ e l. omega arith) N names d h
-right_picture Tessellation st x planar of is N names d h = tessellation_drawn x is one_each (λ e l. omega arith) N names d h
-right_picture (Polyline spot) st x planar of is N names d h = polyline_drawn x is h.weight (long st.map.graph st.source st.sink st.outer x of is h.weight h.rows) h.column N names d h.picture
-right_picture Dominance st x planar of is N names d h = right_dominance st x planar of is N names d h
+right_picture : (form : DrawForm) (g : InputGraph) (st : StValue) (x : SidesValue) → IsConsistent g → IsFound g st → AreSidesIn st x → IsSides x → (N : Names) → AreNames x N → (d : Drawing) → IsPictureOf form g st x N d → IsRightPicture form g x d
+right_picture Visibility g st x tables at are is N names d h = visibility_drawn x is one_each (λ e l. omega arith) N names d h
+right_picture Tessellation g st x tables at are is N names d h = tessellation_drawn x is one_each (λ e l. omega arith) N names d h
+right_picture Constrained g st x tables at are is N names d h = right_aligned g st tables at x are N names d h
+right_picture (Polyline spot) g st x tables at are is N names d h = polyline_drawn x is h.weight (long st.map.graph st.source st.sink st.outer x are.sides is h.weight h.rows) h.column N names d h.picture
+right_picture Dominance g st x tables at are is N names d h = right_dominance st x at.planar are.sides is N names d h
 
 shows_file : (bytes : List ℕ) (form : DrawForm) (g : InputGraph) (st : StValue) (out : List ℕ) → IsPlanarFile bytes g st → Draws form g st out → ShowsFile form g st out
 shows_file bytes form g st out file h =
@@ -108,7 +110,7 @@ shows_file bytes form g st out file h =
     let here : IsSides h.sides = meaning_law st.map.graph st.source st.sink st.outer h.sides is.planar h.are.sides in
     record {
       drawn = h;
-      right = right_picture form st h.sides is.planar h.are.sides here (file_names g) (names_meet g st h.sides tables is h.are.sides) h.picture h.is;
+      right = right_picture form g st h.sides tables is h.are here (file_names g) (names_meet g st h.sides tables is h.are.sides) h.picture h.is;
       orders = λ v l. order_law st.map.graph st.source st.sink st.outer h.sides is.planar h.are.sides v l;
     }
 
@@ -141,8 +143,8 @@ module _ (same_poles : OnePolesAnswer) (words : List (List ℕ)) (src src' : Sou
   drawn_whole h =
       let o = output_of (Draw form) bytes h.text (asked (Draw form) words src.left bytes h.ready.bytes is left h.ready.told (Ok h.text) h.ready.answer) in
       record {
-        drawn = λ g st file. refl;
-        right = λ e. record { g = o.g; st = o.st; file = o.file; out = h.text; shows = shows_file bytes form o.g o.st h.text o.file o.answers; gains = h.gains };
+        drawn = λ g st file valid. refl;
+        right = λ e. record { g = o.g; st = o.st; file = o.file; valid = drawn_valid o.g o.st (consistent o.file.tree o.g o.file.graph) (found o.g o.st o.file.planar) form h.text o.answers; out = h.text; shows = shows_file bytes form o.g o.st h.text o.file o.answers; gains = h.gains };
         nothing = λ n. absurd (n refl);
       }
 
@@ -151,7 +153,7 @@ module _ (same_poles : OnePolesAnswer) (words : List (List ℕ)) (src src' : Sou
       let r = h.refused in
       let answer = asked (Draw form) words src.left bytes r.bytes is left r.told (Err h.refusal) r.answer in
       record {
-        drawn = λ g st file. absurd (planar_says (Draw form) bytes g st file (accepted_one same_poles g) (Err h.refusal) answer);
+        drawn = λ g st file valid. absurd (valid_not_refused g st (consistent file.tree g file.graph) (found g st file.planar) form h.refusal valid (planar_says (Draw form) bytes g st file (accepted_one same_poles g) (Err h.refusal) answer));
         right = λ e. absurd (other e);
         nothing = λ n. before;
       }

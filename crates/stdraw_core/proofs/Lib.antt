@@ -2,6 +2,7 @@ pub mod VerdictLemmas
 pub mod DrawingLemmas
 pub mod PolylineLemmas
 pub mod DominanceLemmas
+pub mod PathLemmas
 pub mod StageLemmas
 pub mod VerdictOne
 pub mod OneAnswer

@@ -13,21 +13,21 @@ use Rattle.st_test.specs.PolesAnswer.{OnePolesAnswer}
 use Rattle.st_words.specs.declared.words.Command.{Command}
 use Rattle.st_words.specs.declared.words.Command.TheVariants.{Query, Test, Draw}
 use Rattle.st_words.specs.declared.words.DrawForm.{DrawForm}
-use Rattle.st_words.specs.declared.words.DrawForm.TheVariants.{Visibility, Tessellation, Polyline, Dominance}
+use Rattle.st_words.specs.declared.words.DrawForm.TheVariants.{Visibility, Tessellation, Constrained, Polyline, Dominance}
 use Rattle.st_words.specs.declared.words.Spot.{Spot}
 use Rattle.st_words.specs.declared.words.Spot.TheVariants.{Left, Middle, Right}
 use Rattle.st_report.specs.declared.stop.Refusal.{Refusal}
-use Rattle.st_report.specs.declared.stop.Refusal.TheVariants.{Words, TooManyBytes, Gml, Shape, NotSt, UnknownVertex}
+use Rattle.st_report.specs.declared.stop.Refusal.TheVariants.{Words, TooManyBytes, Gml, Shape, NotSt, Path, UnknownVertex}
 use Rattle.stdraw_core.specs.Stages.{IsOne}
 use Rattle.st_words.specs.Words.{IsName, AreNames, form_words, AreForm, IsCommand}
 use Rattle.stdraw_core.specs.Query.{names_of, AreKnown, IsFirstUnknown, IsLine, line_of_pair, AreLines, no_line, one_line, AreAnswers}
-use Rattle.stdraw_core.specs.Verdict.{IsAccepted}
+use Rattle.stdraw_core.specs.Verdict.{IsAccepted, IsFound}
+use Rattle.stdraw_core.specs.Paths.{AreSidesIn}
 use Rattle.stdraw_core.specs.Answer.{Asks, IsFew, IsTree, IsGraph, AnswersQuery, AnswersTest, AnswersDraw, Answers, AnswersGraph, AnswersFile, HaveOneAnswer, byte_limit}
 use Rattle.st_ids.specs.declared.names.Names.{Names}
 use Rattle.st_shape.specs.declared.point.Point.{Point}
 use Rattle.st_shape.specs.Rules.{Drawing}
 use Rattle.st_sides.specs.Sides.{SidesValue, IsSides}
-use Rattle.st_sides.specs.SidesOf.{IsSidesOf}
 use Rattle.st_sides.proofs.MeaningLemmas.{meaning_law}
 use Rattle.st_sides.proofs.OneValueLemmas.{one_value_law}
 use Rattle.eps_core.specs.Text.{text}
@@ -37,6 +37,7 @@ use Rattle.stdraw_core.specs.Drawing.{one_each, file_names, IsPictureOf, Draws}
 use Rattle.stdraw_core.proofs.DrawingLemmas.{found}
 use Rattle.stdraw_core.proofs.PolylineLemmas.{one_polyline}
 use Rattle.stdraw_core.proofs.DominanceLemmas.{one_dominance, one_points}
+use Rattle.stdraw_core.proofs.PathLemmas.{drawn_valid, one_aligned, same_refusal, valid_not_refused}
 use Rattle.stdraw_core.proofs.StageLemmas.{ok, err, one_then, same_bool}
 use Rattle.stdraw_core.proofs.VerdictOne.{accepted_one}
 
@@ -81,6 +82,7 @@ second_letter words = get_or (get_or words 1 []) 0 0
 form_letter : DrawForm → ℕ
 form_letter Visibility = 118
 form_letter Tessellation = 116
+form_letter Constrained = 99
 form_letter (Polyline spot) = 112
 form_letter Dominance = 100
 
@@ -93,6 +95,7 @@ form_first : (form : DrawForm) → first_letter (form_words form) ≡ form_lette
 unfolding first_letter form_letter
 form_first Visibility = refl
 form_first Tessellation = refl
+form_first Constrained = refl
 form_first (Polyline spot) = refl
 form_first Dominance = refl
 
@@ -119,18 +122,27 @@ by_letters : (f f' : DrawForm) → form_words f ≡ form_words f' → form_lette
 unfolding form_letter
 by_letters Visibility Visibility w e = refl
 by_letters Visibility Tessellation w e = absurd (omega (arith, e))
+by_letters Visibility Constrained w e = absurd (omega (arith, e))
 by_letters Visibility (Polyline s) w e = absurd (omega (arith, e))
 by_letters Visibility Dominance w e = absurd (omega (arith, e))
 by_letters Tessellation Visibility w e = absurd (omega (arith, e))
 by_letters Tessellation Tessellation w e = refl
+by_letters Tessellation Constrained w e = absurd (omega (arith, e))
 by_letters Tessellation (Polyline s) w e = absurd (omega (arith, e))
 by_letters Tessellation Dominance w e = absurd (omega (arith, e))
+by_letters Constrained Visibility w e = absurd (omega (arith, e))
+by_letters Constrained Tessellation w e = absurd (omega (arith, e))
+by_letters Constrained Constrained w e = refl
+by_letters Constrained (Polyline s) w e = absurd (omega (arith, e))
+by_letters Constrained Dominance w e = absurd (omega (arith, e))
 by_letters (Polyline s) Visibility w e = absurd (omega (arith, e))
 by_letters (Polyline s) Tessellation w e = absurd (omega (arith, e))
+by_letters (Polyline s) Constrained w e = absurd (omega (arith, e))
 by_letters (Polyline s) (Polyline s') w e = ap (λ z. Polyline z) (same_spot s s' (sym (spot_second s) ∙ ap second_letter w ∙ spot_second s'))
 by_letters (Polyline s) Dominance w e = absurd (omega (arith, e))
 by_letters Dominance Visibility w e = absurd (omega (arith, e))
 by_letters Dominance Tessellation w e = absurd (omega (arith, e))
+by_letters Dominance Constrained w e = absurd (omega (arith, e))
 by_letters Dominance (Polyline s) w e = absurd (omega (arith, e))
 by_letters Dominance Dominance w e = refl
 
@@ -164,6 +176,7 @@ asks_err words TooManyBytes h = absurd h
 asks_err words (Gml f) h = absurd h
 asks_err words (Shape f) h = absurd h
 asks_err words (NotSt why) h = absurd h
+asks_err words (Path why) h = absurd h
 asks_err words (UnknownVertex n) h = absurd h
 
 pub asks_one : (words : List (List ℕ)) → IsOne (Asks words)
@@ -179,6 +192,7 @@ few_err bytes TooManyBytes h = (refl, h)
 few_err bytes (Gml f) h = absurd h
 few_err bytes (Shape f) h = absurd h
 few_err bytes (NotSt why) h = absurd h
+few_err bytes (Path why) h = absurd h
 few_err bytes (UnknownVertex n) h = absurd h
 
 pub few_one : (bytes : List ℕ) → IsOne (IsFew bytes)
@@ -194,6 +208,7 @@ tree_apart bytes tree TooManyBytes h k = k
 tree_apart bytes tree (Gml f) h k = not_both bytes tree f h k
 tree_apart bytes tree (Shape f) h k = k
 tree_apart bytes tree (NotSt why) h k = k
+tree_apart bytes tree (Path why) h k = k
 tree_apart bytes tree (UnknownVertex n) h k = k
 
 tree_err : (bytes : List ℕ) (r s : Refusal) → IsTree bytes (Err r) → IsTree bytes (Err s) → r ≡ s
@@ -202,11 +217,13 @@ tree_err bytes (Gml f) Words h k = absurd k
 tree_err bytes (Gml f) TooManyBytes h k = absurd k
 tree_err bytes (Gml f) (Shape g) h k = absurd k
 tree_err bytes (Gml f) (NotSt why) h k = absurd k
+tree_err bytes (Gml f) (Path why) h k = absurd k
 tree_err bytes (Gml f) (UnknownVertex n) h k = absurd k
 tree_err bytes Words s h k = absurd h
 tree_err bytes TooManyBytes s h k = absurd h
 tree_err bytes (Shape f) s h k = absurd h
 tree_err bytes (NotSt why) s h k = absurd h
+tree_err bytes (Path why) s h k = absurd h
 tree_err bytes (UnknownVertex n) s h k = absurd h
 
 pub tree_one : (bytes : List ℕ) → IsOne (IsTree bytes)
@@ -222,6 +239,7 @@ graph_apart tree g TooManyBytes h k = k
 graph_apart tree g (Gml f) h k = k
 graph_apart tree g (Shape f) h k = let e : None ≡ Some f = sym h.0 ∙ k in cc
 graph_apart tree g (NotSt why) h k = k
+graph_apart tree g (Path why) h k = k
 graph_apart tree g (UnknownVertex n) h k = k
 
 graph_err : (tree : Entries) (r s : Refusal) → IsGraph tree (Err r) → IsGraph tree (Err s) → r ≡ s
@@ -230,11 +248,13 @@ graph_err tree (Shape f) Words h k = absurd k
 graph_err tree (Shape f) TooManyBytes h k = absurd k
 graph_err tree (Shape f) (Gml g) h k = absurd k
 graph_err tree (Shape f) (NotSt why) h k = absurd k
+graph_err tree (Shape f) (Path why) h k = absurd k
 graph_err tree (Shape f) (UnknownVertex n) h k = absurd k
 graph_err tree Words s h k = absurd h
 graph_err tree TooManyBytes s h k = absurd h
 graph_err tree (Gml f) s h k = absurd h
 graph_err tree (NotSt why) s h k = absurd h
+graph_err tree (Path why) s h k = absurd h
 graph_err tree (UnknownVertex n) s h k = absurd h
 
 pub graph_one : (tree : Entries) → IsOne (IsGraph tree)
@@ -284,6 +304,7 @@ query_err ps g st TooManyBytes h = absurd h
 query_err ps g st (Gml f) h = absurd h
 query_err ps g st (Shape f) h = absurd h
 query_err ps g st (NotSt why) h = absurd h
+query_err ps g st (Path why) h = absurd h
 query_err ps g st (UnknownVertex n) h = (n, refl, h)
 
 query_one : (ps : List (ℤ × ℤ)) (g : InputGraph) (st : StValue) → IsConsistent g → IsPlanarSt st.map.graph st.source st.sink st.outer → IsOne (AnswersQuery ps g st)
@@ -302,29 +323,31 @@ test_one g st (Ok a) (Err s) h k = absurd k
 test_one g st (Err r) y h k = absurd h
 
 -- ---- the drawing
-same_picture : (form : DrawForm) (st : StValue) (x : SidesValue) → IsPlanarSt st.map.graph st.source st.sink st.outer → IsSidesOf st.map.graph st.source st.sink st.outer x → IsSides x → (N : Names) (d d' : Drawing) → IsPictureOf form st x N d → IsPictureOf form st x N d' → d ≡ d'
-same_picture Visibility st x planar of is N d d' h k = (pictures_law x is).one_visibility one_each N d d' h k
-same_picture Tessellation st x planar of is N d d' h k = (pictures_law x is).one_tessellation one_each N d d' h k
-same_picture (Polyline spot) st x planar of is N d d' h k = one_polyline st.map.graph st.source st.sink st.outer x of is spot N d d' h k
-same_picture Dominance st x planar of is N d d' h k = one_dominance st x planar of is N d d' h k
+same_picture : (form : DrawForm) (g : InputGraph) (st : StValue) (x : SidesValue) → IsConsistent g → IsFound g st → AreSidesIn st x → IsSides x → (N : Names) (d d' : Drawing) → IsPictureOf form g st x N d → IsPictureOf form g st x N d' → d ≡ d'
+same_picture Visibility g st x tables at are is N d d' h k = (pictures_law x is).one_visibility one_each N d d' h k
+same_picture Tessellation g st x tables at are is N d d' h k = (pictures_law x is).one_tessellation one_each N d d' h k
+same_picture Constrained g st x tables at are is N d d' h k = one_aligned g st tables at x are N d d' h k
+same_picture (Polyline spot) g st x tables at are is N d d' h k = one_polyline st.map.graph st.source st.sink st.outer x are.sides is spot N d d' h k
+same_picture Dominance g st x tables at are is N d d' h k = one_dominance st x at.planar are.sides is N d d' h k
 
-same_drawing : (form : DrawForm) (g : InputGraph) (st : StValue) → IsPlanarSt st.map.graph st.source st.sink st.outer → (a b : List ℕ) → Draws form g st a → Draws form g st b → a ≡ b
-same_drawing form g st planar a b h k =
-    let one : h.sides ≡ k.sides = one_value_law st.map.graph st.source st.sink st.outer h.sides k.sides planar h.are.sides h.are.sizes k.are.sides k.are.sizes in
-    let here : IsSides h.sides = meaning_law st.map.graph st.source st.sink st.outer h.sides planar h.are.sides in
-    let moved : IsPictureOf form st h.sides (file_names g) k.picture = subst (λ (z : SidesValue). IsPictureOf form st z (file_names g) k.picture) (sym one) k.is in
-    h.told ∙ ap text (same_picture form st h.sides planar h.are.sides here (file_names g) h.picture k.picture h.is moved) ∙ sym k.told
+same_drawing : (form : DrawForm) (g : InputGraph) (st : StValue) → IsConsistent g → IsFound g st → (a b : List ℕ) → Draws form g st a → Draws form g st b → a ≡ b
+same_drawing form g st tables is a b h k =
+    let one : h.sides ≡ k.sides = one_value_law st.map.graph st.source st.sink st.outer h.sides k.sides is.planar h.are.sides h.are.sizes k.are.sides k.are.sizes in
+    let here : IsSides h.sides = meaning_law st.map.graph st.source st.sink st.outer h.sides is.planar h.are.sides in
+    let moved : IsPictureOf form g st h.sides (file_names g) k.picture = subst (λ (z : SidesValue). IsPictureOf form g st z (file_names g) k.picture) (sym one) k.is in
+    h.told ∙ ap text (same_picture form g st h.sides tables is h.are here (file_names g) h.picture k.picture h.is moved) ∙ sym k.told
 
-draw_one : (form : DrawForm) (g : InputGraph) (st : StValue) → IsPlanarSt st.map.graph st.source st.sink st.outer → IsOne (AnswersDraw form g st)
-draw_one form g st planar (Ok a) (Ok b) h k = ok a b (same_drawing form g st planar a b h k)
-draw_one form g st planar (Ok a) (Err s) h k = absurd k
-draw_one form g st planar (Err r) y h k = absurd h
+draw_one : (form : DrawForm) (g : InputGraph) (st : StValue) → IsConsistent g → IsFound g st → IsOne (AnswersDraw form g st)
+draw_one form g st tables is (Ok a) (Ok b) h k = ok a b (same_drawing form g st tables is a b h k)
+draw_one form g st tables is (Ok a) (Err s) h k = absurd (valid_not_refused g st tables is form s (drawn_valid g st tables is form a h) k)
+draw_one form g st tables is (Err r) (Ok b) h k = absurd (valid_not_refused g st tables is form r (drawn_valid g st tables is form b k) h)
+draw_one form g st tables is (Err r) (Err s) h k = err r s (same_refusal g st tables is form r s h k)
 
 -- ---- all stages
 answers_one : (c : Command) (g : InputGraph) (st : StValue) → IsConsistent g → IsAccepted g (Ok st) → IsOne (Answers c g st)
 answers_one (Query ps) g st tables is = query_one ps g st tables (found g st is).planar
 answers_one Test g st tables is = test_one g st
-answers_one (Draw form) g st tables is = draw_one form g st (found g st is).planar
+answers_one (Draw form) g st tables is = draw_one form g st tables (found g st is)
 
 -- the tables of a file's graph fit together
 pub consistent : (tree : Entries) (g : InputGraph) → IsGraph tree (Ok g) → IsConsistent g

@@ -9,14 +9,16 @@ use Rattle.st_port.specs.declared.port.ReadEnd.TheVariants.{TooLong}
 use Rattle.st_input.specs.declared.fault.ShapeFault.TheVariants as shape
 use Rattle.st_words.specs.declared.words.Command.{Command}
 use Rattle.st_words.specs.declared.words.Command.TheVariants.{Query, Test, Draw}
+use Rattle.st_words.specs.declared.words.DrawForm.{DrawForm}
+use Rattle.st_words.specs.declared.words.DrawForm.TheVariants.{Visibility, Tessellation, Constrained, Polyline, Dominance}
 use Rattle.st_report.specs.declared.stop.Refusal.{Refusal}
-use Rattle.st_report.specs.declared.stop.Refusal.TheVariants.{Words, TooManyBytes, Gml, Shape, NotSt, UnknownVertex}
+use Rattle.st_report.specs.declared.stop.Refusal.TheVariants.{Words, TooManyBytes, Gml, Shape, NotSt, Path, UnknownVertex}
 use Rattle.st_report.specs.declared.stop.Stop.{Stop}
 use Rattle.st_report.specs.declared.stop.Stop.TheVariants.{Refused, ReadFault, WriteFault, NoMemory}
 use Rattle.stdraw_core.specs.Stages.{Then, refuses, goes_on}
 use Rattle.stdraw_core.specs.Stops.{Gives}
 use Rattle.st_words.specs.Words.{IsCommand}
-use Rattle.stdraw_core.specs.Answer.{IsFew, IsTree, IsGraph, Answers, AnswersGraph, AnswersFile, byte_limit}
+use Rattle.stdraw_core.specs.Answer.{IsFew, IsTree, IsGraph, Answers, AnswersDraw, AnswersGraph, AnswersFile, byte_limit}
 use Rattle.st_input.specs.InputGraph.{InputGraph}
 use Rattle.st_test.specs.Planar.{StValue}
 use Rattle.stdraw_core.specs.Verdict.{HasPoles, HasMap, IsPlanar, IsAccepted}
@@ -77,10 +79,17 @@ never_then r first next no_first no_next (goes_on a h g) = no_next a g
 not_accepted : (g : InputGraph) → NeverGives TooManyBytes (IsAccepted g)
 not_accepted g = never_then TooManyBytes (HasPoles g) (λ p. Then (HasMap g) (IsPlanar g p)) (λ h. h) (λ p. never_then TooManyBytes (HasMap g) (IsPlanar g p) (λ h. h) (λ m h. h))
 
+no_refusal : (form : DrawForm) (g : InputGraph) (st : StValue) → NeverGives TooManyBytes (AnswersDraw form g st)
+no_refusal Visibility g st = λ h. h
+no_refusal Tessellation g st = λ h. h
+no_refusal Constrained g st = λ h. h
+no_refusal (Polyline spot) g st = λ h. h
+no_refusal Dominance g st = λ h. h
+
 no_answer : (command : Command) (g : InputGraph) (st : StValue) → NeverGives TooManyBytes (Answers command g st)
 no_answer (Query pairs) g st = λ h. h
 no_answer Test g st = λ h. h
-no_answer (Draw form) g st = λ h. h
+no_answer (Draw form) g st = no_refusal form g st
 
 not_too_long : (command : Command) (bytes : List ℕ) → length bytes ≤ byte_limit → NeverGives TooManyBytes (AnswersFile command bytes)
 not_too_long command bytes few =
@@ -95,6 +104,7 @@ leaves_nothing command bytes old new few end TooManyBytes h = absurd (not_too_lo
 leaves_nothing command bytes old new few end (Gml f) h = end
 leaves_nothing command bytes old new few end (Shape f) h = end
 leaves_nothing command bytes old new few end (NotSt why) h = end
+leaves_nothing command bytes old new few end (Path why) h = end
 leaves_nothing command bytes old new few end (UnknownVertex n) h = end
 
 pub file_decided : (words : List (List ℕ)) (old new : SourceState) (command : Command) (text : List ℕ) (result : Result (List ℕ) Stop) → IsCommand words command → ReadsWhole old.left new.left byte_limit (Ok text) → IsAtEnd new.left
@@ -124,6 +134,7 @@ stopped words s s' out d d' (Refused Words) h line = told words s s' d d' Words 
 stopped words s s' out d d' (Refused TooManyBytes) h line = told words s s' d d' TooManyBytes h line
 stopped words s s' out d d' (Refused (Gml f)) h line = told words s s' d d' (Gml f) h line
 stopped words s s' out d d' (Refused (NotSt why)) h line = told words s s' d d' (NotSt why) h line
+stopped words s s' out d d' (Refused (Path why)) h line = told words s s' d d' (Path why) h line
 stopped words s s' out d d' (Refused (UnknownVertex n)) h line = told words s s' d d' (UnknownVertex n) h line
 stopped words s s' out d d' (Refused (Shape shape.NoGraph)) h line = told words s s' d d' (Shape shape.NoGraph) h line
 stopped words s s' out d d' (Refused (Shape (shape.SecondGraph at))) h line = told words s s' d d' (Shape (shape.SecondGraph at)) h line

@@ -36,6 +36,7 @@ poles_refusal g refusal.TooManyBytes h = absurd h
 poles_refusal g (refusal.Gml f) h = absurd h
 poles_refusal g (refusal.Shape f) h = absurd h
 poles_refusal g (refusal.NotSt why) (fault, first, tells) = (why, refl, fault, first, tells)
+poles_refusal g (refusal.Path why) h = absurd h
 poles_refusal g (refusal.UnknownVertex n) h = absurd h
 
 -- want of memory is never told
@@ -99,6 +100,7 @@ map_refusal g refusal.TooManyBytes h = absurd h
 map_refusal g (refusal.Gml f) h = absurd h
 map_refusal g (refusal.Shape f) h = absurd h
 map_refusal g (refusal.NotSt why) (v, bad, is) = (v, ap (λ (w : NotSt). refusal.NotSt w) is, bad)
+map_refusal g (refusal.Path why) h = absurd h
 map_refusal g (refusal.UnknownVertex n) h = absurd h
 
 map_apart : (g : InputGraph) (r : Refusal) → ((v : ℕ) → v < g.graph.vertices → IsOrderAt g.graph.ends v (order_at g.orders v)) → MapRefusal g r → ⊥
@@ -162,6 +164,7 @@ planar_refusal g p m refusal.TooManyBytes h = absurd h
 planar_refusal g p m (refusal.Gml f) h = absurd h
 planar_refusal g p m (refusal.Shape f) h = absurd h
 planar_refusal g p m (refusal.NotSt why) (fault, is, tells) = (why, refl, told m p.source.0 p.sink.0 (outer_in g m p.source.0) fault why is tells)
+planar_refusal g p m (refusal.Path why) h = absurd h
 planar_refusal g p m (refusal.UnknownVertex n) h = absurd h
 
 planar_refusal_same : (g : InputGraph) (p : Poles) (m : Embedded) (r s : Refusal) → PlanarRefusal g p m r → PlanarRefusal g p m s → r ≡ s

@@ -21,6 +21,7 @@ use Rattle.st_test.specs.Planar.{StValue}
 use Rattle.st_report.specs.Lines.{numbered}
 use Rattle.stdraw_core.specs.Verdict.{IsAccepted, vertex_name}
 use Rattle.stdraw_core.specs.Drawing.{Draws}
+use Rattle.stdraw_core.specs.Paths.{RefusesDraw}
 use Rattle.stdraw_core.specs.Query.{AreKnown, AreLines, AreAnswers, IsFirstUnknown, names_of}
 
 -- the greatest numbers of bytes of a file, of vertices and of edges
@@ -80,10 +81,10 @@ abbrev pub AnswersTest : InputGraph → StValue → Result (List ℕ) Refusal �
 AnswersTest g st (Ok out) = out ≡ test_line g st
 AnswersTest g st (Err _) = ⊥
 
--- what a drawing answers: the text of the picture of the form
+-- what a drawing answers: the text of the picture of the form, or why the paths can't be drawn
 abbrev pub AnswersDraw : DrawForm → InputGraph → StValue → Result (List ℕ) Refusal → Type 0
 AnswersDraw form g st (Ok out) = Draws form g st out
-AnswersDraw form g st (Err _) = ⊥
+AnswersDraw form g st (Err refusal) = RefusesDraw form g st refusal
 
 -- what the command answers about a planar st-graph
 abbrev pub Answers : Command → InputGraph → StValue → Result (List ℕ) Refusal → Type 0

@@ -2,23 +2,21 @@
 -- Letters: g graph of the file, st planar st-graph, x its sides, N names, d picture.
 --   one_each                   each edge weighs 1
 --   file_names g               the names and labels of the file
---   AreSidesIn st x            x has the sides of the planar st-graph, with an entry for each vertex, edge and node
 --   AreRows g w                the weights of a polyline picture: 2 where another edge has the same ends, else 1
 --   place_of spot lo hi        the column of a dot between the ends of a bar
 --   AnswersRows, AnswersPlaces what closures have to answer for these weights and columns
 --   IsPlacedPolyline           the polyline picture with these weights and columns
 --   IsReducedPicture st x N d  the dominance picture, by the reduced graph
---   IsPictureOf form st x N d  d is the picture of the form
+--   IsAlignedPicture g x N d   the picture with the edges of each path in one column
+--   IsPictureOf form g st x N d   d is the picture of the form
 --   Draws form g st out        out is the EPS text of that picture, which keeps the rules of pictures
---   IsRightPicture form x d    clean, rising and in order, or for a tessellation: its boxes tile the frame in order
+--   IsRightPicture form g x d  clean, rising and in order, or for a tessellation: its boxes tile the frame in order
 --   ShowsFile form g st out    out is the EPS text of a right picture, in the orders of the file
-use Rattle.std.specs.Prelude.{◌≡◌, ℕ, ◌+◌, ◌-◌, ◌/◌, ◌<◌, List, ℤ, pos}
+use Rattle.std.specs.Prelude.{◌≡◌, ℕ, ◌+◌, ◌-◌, ◌/◌, ◌<◌, List, ℤ, pos, length}
 use Rattle.st_ids.specs.declared.names.Names.{Names}
 use Rattle.st_map.specs.Embedded.{Embedded, edges, order}
 use Rattle.st_test.specs.Planar.{StValue}
 use Rattle.st_sides.specs.Sides.{SidesValue, outs, ins, left_of, right_of}
-use Rattle.st_sides.specs.SidesOf.{IsSidesOf}
-use Rattle.st_sides.specs.Held.{HasSizes}
 use Rattle.st_sides.specs.Normal.{clockwise}
 use Rattle.st_sides.specs.Rotation.{IsRotation}
 use Rattle.st_shape.specs.Rules.{Drawing, IsPicture}
@@ -30,15 +28,18 @@ use Rattle.st_shape.specs.declared.point.Point.{Point}
 use Rattle.draw_dom.specs.Shown.{IsDominanceOf}
 use Rattle.draw_dom.specs.Pictures.{ShowsReaching}
 use Rattle.draw_poly.specs.Polyline.{IsPolylines}
+use Rattle.draw_align.specs.Constrained.{IsAligned, IsConstrained}
+use Rattle.draw_align.specs.Listed.{AreSound}
 use Rattle.draw_vis.specs.Visibility.{IsVisibility}
 use Rattle.draw_vis.specs.Tessellation.{IsTessellation}
 use Rattle.draw_vis.specs.Rows.{IsTessellated}
 use Rattle.eps_core.specs.Text.{text}
 use Rattle.st_input.specs.InputGraph.{InputGraph}
 use Rattle.st_words.specs.declared.words.DrawForm.{DrawForm}
-use Rattle.st_words.specs.declared.words.DrawForm.TheVariants.{Visibility, Tessellation, Polyline, Dominance}
+use Rattle.st_words.specs.declared.words.DrawForm.TheVariants.{Visibility, Tessellation, Constrained, Polyline, Dominance}
 use Rattle.st_words.specs.declared.words.Spot.{Spot}
 use Rattle.st_words.specs.declared.words.Spot.TheVariants.{Left, Middle, Right}
+use Rattle.stdraw_core.specs.Paths.{AreSidesIn, HasKnownEdges, paths_in}
 
 -- each edge weighs 1
 abbrev pub one_each : ℕ → ℕ
@@ -47,11 +48,6 @@ one_each e = 1
 -- the names and labels of the file
 abbrev pub file_names : InputGraph → Names
 file_names g = record { vertex = g.vertex_names; edge = g.edge_names; label = g.labels }
-
--- the sides of the planar st-graph
-pub record AreSidesIn (st : StValue) (x : SidesValue) : Type 0 where
-  pub sides : IsSidesOf st.map.graph st.source st.sink st.outer x
-  pub sizes : HasSizes x
 
 -- an edge takes two rows at least where another edge has the same ends, and else one
 pub record AreRows (g : Embedded) (w : ℕ → ℕ) : Type 0 where
@@ -86,33 +82,42 @@ pub record IsReducedPicture (st : StValue) (x : SidesValue) (N : Names) (d : Dra
   pub points : List Point
   pub is : IsDominanceOf st.map.graph st.source st.sink st.outer x N d points
 
+-- The constrained picture of valid paths.
+pub record IsAlignedPicture (g : InputGraph) (x : SidesValue) (N : Names) (d : Drawing) : Type 0 where
+  pub known : HasKnownEdges g
+  pub sound : AreSound x (paths_in g) (length (paths_in g))
+  pub is : IsConstrained x one_each (paths_in g) N d
+
 -- the picture of the form
-abbrev pub IsPictureOf : DrawForm → StValue → SidesValue → Names → Drawing → Type 0
-IsPictureOf Visibility st x N d = IsVisibility x one_each N d
-IsPictureOf Tessellation st x N d = IsTessellation x one_each N d
-IsPictureOf (Polyline spot) st x N d = IsPlacedPolyline spot st.map.graph x N d
-IsPictureOf Dominance st x N d = IsReducedPicture st x N d
+abbrev pub IsPictureOf : DrawForm → InputGraph → StValue → SidesValue → Names → Drawing → Type 0
+IsPictureOf Visibility g st x N d = IsVisibility x one_each N d
+IsPictureOf Tessellation g st x N d = IsTessellation x one_each N d
+IsPictureOf Constrained g st x N d = IsAlignedPicture g x N d
+IsPictureOf (Polyline spot) g st x N d = IsPlacedPolyline spot st.map.graph x N d
+IsPictureOf Dominance g st x N d = IsReducedPicture st x N d
 
 -- the EPS text of that picture
 pub record Draws (form : DrawForm) (g : InputGraph) (st : StValue) (out : List ℕ) : Type 0 where
   pub sides : SidesValue
   pub are : AreSidesIn st sides
   pub picture : Drawing
-  pub is : IsPictureOf form st sides (file_names g) picture
+  pub is : IsPictureOf form g st sides (file_names g) picture
   pub rules : IsPicture picture
   pub told : out ≡ text picture
 
 -- nothing is wrong with the picture: it is clean, its lines rise, and it shows the order at each vertex; or its boxes tile the
--- frame and show the order; and in the dominance form one vertex reaches another exactly where its point is at most the other's
-abbrev pub IsRightPicture : DrawForm → SidesValue → Drawing → Type 0
-IsRightPicture Visibility x d = IsDrawn x d
-IsRightPicture Tessellation x d = IsTessellated x d
-IsRightPicture (Polyline spot) x d = IsDrawn x d
-IsRightPicture Dominance x d = IsDrawn x d × ShowsReaching x d
+-- frame and show the order; in the constrained form the edges of each path stand in one column; and in the dominance form one
+-- vertex reaches another exactly where its point is at most the other's
+abbrev pub IsRightPicture : DrawForm → InputGraph → SidesValue → Drawing → Type 0
+IsRightPicture Visibility g x d = IsDrawn x d
+IsRightPicture Tessellation g x d = IsTessellated x d
+IsRightPicture Constrained g x d = IsDrawn x d × IsAligned x (paths_in g) d
+IsRightPicture (Polyline spot) g x d = IsDrawn x d
+IsRightPicture Dominance g x d = IsDrawn x d × ShowsReaching x d
 
 -- The output is the text of a picture in which nothing is wrong. The orders that it shows are those of the file, each read on
 -- from one of its places.
 pub record ShowsFile (form : DrawForm) (g : InputGraph) (st : StValue) (out : List ℕ) : Type 0 where
   pub drawn : Draws form g st out
-  pub right : IsRightPicture form drawn.sides drawn.picture
+  pub right : IsRightPicture form g drawn.sides drawn.picture
   pub orders : (v : ℕ) → v < st.map.graph.vertices → IsRotation (order st.map.graph v) (clockwise (outs drawn.sides v) (ins drawn.sides v))

@@ -20,6 +20,7 @@ use Rattle.st_report.specs.declared.stop.Status.{Status}
 use Rattle.st_report.specs.declared.stop.Status.TheVariants as status
 use Rattle.stdraw_core.specs.Answer.{IsGraph, byte_limit}
 use Rattle.stdraw_core.specs.Drawing.{ShowsFile}
+use Rattle.stdraw_core.specs.Paths.{HasValidPaths}
 use Rattle.stdraw_core.specs.Query.{AreAnswers, AreKnown, names_of}
 use Rattle.stdraw_core.specs.Verdict.{IsAccepted}
 use Rattle.st_words.specs.Words.{IsCommand}
@@ -32,19 +33,20 @@ pub record IsPlanarFile (bytes : List ℕ) (g : InputGraph) (st : StValue) : Typ
   pub graph : IsGraph tree (Ok g)
   pub planar : IsAccepted g (Ok st)
 
--- the text of a right picture of the file's graph was written
+-- the text of a right picture of the file's graph was written, and its paths are valid where the form looks at them
 pub record IsDrawnFile (form : DrawForm) (bytes : List ℕ) (old new : SinkState) : Type 0 where
   pub g : InputGraph
   pub st : StValue
   pub file : IsPlanarFile bytes g st
+  pub valid : HasValidPaths form g st
   pub out : List ℕ
   pub shows : ShowsFile form g st out
   pub gains : Gains old new out
 
--- Each file of a planar st-graph is drawn. A drawing is written for no other file, and it is a right one. Where there is no
--- drawing, nothing is written.
+-- Each file of a planar st-graph is drawn, in the constrained form where its paths are valid. A drawing is written for no other
+-- file, and it is a right one. Where there is no drawing, nothing is written.
 pub record HeadlineFor (form : DrawForm) (bytes : List ℕ) (old new : SinkState) (s : Status) : Type 0 where
-  pub drawn : (g : InputGraph) (st : StValue) → IsPlanarFile bytes g st → s ≡ status.Done
+  pub drawn : (g : InputGraph) (st : StValue) → IsPlanarFile bytes g st → HasValidPaths form g st → s ≡ status.Done
   pub right : s ≡ status.Done → IsDrawnFile form bytes old new
   pub nothing : s ≢ status.Done → new ≡ old
 

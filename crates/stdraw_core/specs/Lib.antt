@@ -1,4 +1,5 @@
 pub mod Stages
+pub mod Paths
 pub mod Drawing
 pub mod Query
 pub mod Verdict

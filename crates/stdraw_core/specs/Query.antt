@@ -20,7 +20,8 @@ use Rattle.st_sides.specs.Sides.{SidesValue}
 use Rattle.st_test.specs.Planar.{StValue}
 use Rattle.draw_dom.specs.Points.{AreAtMost, point_of}
 use Rattle.draw_dom.specs.Shown.{IsDominanceOf}
-use Rattle.stdraw_core.specs.Drawing.{AreSidesIn, file_names}
+use Rattle.stdraw_core.specs.Drawing.{file_names}
+use Rattle.stdraw_core.specs.Paths.{AreSidesIn}
 
 -- vertex v has the name
 abbrev pub IsNamed : InputGraph → ℕ → ℤ → Type 0

@@ -10,10 +10,12 @@ ghost use Rattle.st_sides.specs.SidesOf.{IsSidesOf};
 ghost use Rattle.st_input.specs.InputGraph.{IsConsistent};
 ghost use Rattle.stdraw_core.specs.Answer.{AnswersDraw, vertex_limit, edge_limit};
 ghost use Rattle.stdraw_core.specs.Drawing.{AnswersPlaces, AnswersRows, IsPictureOf, IsReducedPicture, IsPlacedPolyline, place_of};
-ghost use Rattle.stdraw_core.specs.Stops.{Gives};
+ghost use Rattle.stdraw_core.specs.Paths.{AreSidesIn};
+ghost use Rattle.stdraw_core.specs.Stops.{Gives, StopsAt};
 ghost use Rattle.stdraw_core.specs.Verdict.{IsFound};
 
 use crate::output::Output;
+use crate::paths::aligned_picture;
 use draw_dom::dominance;
 use draw_poly::{Placer, polyline};
 use draw_vis::{tessellation, visibility};
@@ -138,36 +140,41 @@ fn dominance_of(
     Ok(drawn.picture)
 }
 
-// The picture of the form. In the forms of bars each edge weighs 1.
+// The picture of the form, or why the paths can't be drawn. In the forms of bars each edge weighs 1.
 fn picture_of<F: Fn(EdgeId) -> u32>(
     alloc: Global,
     form: DrawForm,
+    spec: &GraphSpec,
     graph: StGraph,
     sides: &Sides,
     ones: &Weights<F>,
     names: &Names,
-) -> Result<Picture, NoMemory>
-    requires sides { IsSidesOf graph.map.graph graph.source graph.sink graph.outer sides.now }
+) -> Result<Picture, Stop>
+    requires tables { IsConsistent spec.now }
+    requires found { IsFound spec.now graph }
+    requires sides { AreSidesIn graph sides.now }
     requires names { AreNames sides.now names.now }
     requires weights { ones.now.edges ≡ edge_count sides.now }
     requires lawful { IsLawful F.pre F.post ones.now }
     requires ones { ones.now.most ≡ 1 }
     requires high { sides.now.vertices ≤ vertex_limit }
     requires wide { edge_count sides.now ≤ edge_limit }
-    ensures { IfOk result (IsPictureOf form graph sides.now names.now) }
+    ensures picture { IfOk result (IsPictureOf form spec.now graph sides.now names.now) }
+    ensures refused { StopsAt (AnswersDraw form spec.now graph) result }
 {
     match form {
-        DrawForm::Visibility => visibility(alloc, &graph, sides, ones, names),
-        DrawForm::Tessellation => tessellation(alloc, &graph, sides, ones, names),
-        DrawForm::Polyline(spot) => polyline_of(alloc, spot, &graph, sides, names),
-        DrawForm::Dominance => dominance_of(alloc, graph, sides, names),
+        DrawForm::Visibility => Ok(visibility(alloc, &graph, sides, ones, names)?),
+        DrawForm::Tessellation => Ok(tessellation(alloc, &graph, sides, ones, names)?),
+        DrawForm::Constrained => aligned_picture(alloc, spec, &graph, sides, ones, names),
+        DrawForm::Polyline(spot) => Ok(polyline_of(alloc, spot, &graph, sides, names)?),
+        DrawForm::Dominance => Ok(dominance_of(alloc, graph, sides, names)?),
     }
 }
 
 /// The picture of the form; its text is made while it is written.
 ///
-/// Errors: `NoMemory`.
-/// Cost: O(V + E) time and memory. Not proved.
+/// Errors: `Path`, for the form that looks at paths; `NoMemory`.
+/// Cost: O(V + E) time and memory, and for paths that cross a logarithm more. Not proved.
 pub fn answer_draw(
     alloc: Global,
     form: DrawForm,
@@ -186,11 +193,11 @@ pub fn answer_draw(
     };
     sides.facts();
     let ones = Weights::new(|_e: EdgeId| 1u32, sides.edges(), 1);
-    match picture_of(alloc, form, graph, &sides, &ones, spec.names()) {
+    match picture_of(alloc, form, spec, graph, &sides, &ones, spec.names()) {
         Ok(picture) => {
             let _ = picture.items();
             Ok(Output::picture(picture))
         }
-        Err(NoMemory) => Err(Stop::NoMemory),
+        Err(stop) => Err(stop),
     }
 }

@@ -9,12 +9,13 @@ mod file;
 pub mod laws;
 mod number;
 mod output;
+mod paths;
 mod query;
 mod tested;
 mod top;
 mod verdict;
 
-pub use st_report::{NameList, NotSt, Refusal, Status, Stop};
+pub use st_report::{BadPath, NameList, NotSt, Refusal, Status, Stop};
 pub use st_words::{Command, DrawForm, Pairs, Spot};
 pub use top::run;
 

@@ -66,6 +66,10 @@ fn gml(file: &'static [u8], line: &'static [u8]) -> Row {
     refused("query 1 1", file, Status::Gml, line)
 }
 
+fn bad_path(file: &'static [u8], line: &'static [u8]) -> Row {
+    refused("draw constrained", file, Status::Path, line)
+}
+
 // The words of a line.
 fn words_of(alloc: Global, line: &str) -> Result<Vec<String>, AllocError> {
     let mut words = Vec::new(alloc);
@@ -316,7 +320,7 @@ struct Drawn {
     lines: &'static str,
 }
 
-const DRAWN: [Drawn; 7] = [
+const DRAWN: [Drawn; 11] = [
     Drawn {
         words: "draw visibility",
         file: EDGE,
@@ -359,6 +363,30 @@ const DRAWN: [Drawn; 7] = [
         title: "%%BoundingBox: 0 0 96 120\n%%Title: dominance\n",
         lines: "%v 1\nnewpath 36 36 4 0 360 arc fill\n%v 2\nnewpath 36 60 4 0 360 arc fill\n%v 3\nnewpath 60 60 4 0 360 arc fill\n%v 4\nnewpath 60 84 4 0 360 arc fill\n%e 0 1 2\nnewpath 36 36 moveto 36 60 lineto stroke\n%e 1 2 4\nnewpath 36 60 moveto 36 84 lineto 60 84 lineto stroke\n%e 2 2 3\nnewpath 36 60 moveto 60 60 lineto stroke\n%e 3 1 3\nnewpath 36 36 moveto 60 36 lineto 60 60 lineto stroke\n%e 4 3 4\nnewpath 60 60 moveto 60 84 lineto stroke\n%%EOF\n",
     },
+    Drawn {
+        words: "draw constrained",
+        file: DIAMOND,
+        title: "%%BoundingBox: 0 0 96 120\n%%Title: constrained\n",
+        lines: "%v 1\nnewpath 36 36 moveto 60 36 lineto stroke\n%v 2\nnewpath 36 60 moveto 36 60 lineto stroke\n%v 3\nnewpath 60 60 moveto 60 60 lineto stroke\n%v 4\nnewpath 36 84 moveto 60 84 lineto stroke\n%e 0 1 2\nnewpath 36 36 moveto 36 60 lineto stroke\n%e 1 1 3\nnewpath 60 36 moveto 60 60 lineto stroke\n%e 2 2 4\nnewpath 36 60 moveto 36 84 lineto stroke\n%e 3 3 4\nnewpath 60 60 moveto 60 84 lineto stroke\n%%EOF\n",
+    },
+    Drawn {
+        words: "draw constrained",
+        file: b"graph [ node [ id 1 ] node [ id 2 ] node [ id 3 ] node [ id 4 ] node [ id 5 ] node [ id 6 ] node [ id 7 ] edge [ source 1 target 2 ] edge [ source 1 target 3 ] edge [ source 2 target 4 ] edge [ source 3 target 4 ] edge [ source 4 target 5 ] edge [ source 4 target 6 ] edge [ source 5 target 7 ] edge [ source 6 target 7 ] path [ e 0 e 2 e 4 e 6 ] path [ e 1 e 3 e 5 e 7 ] ]\n",
+        title: "%%BoundingBox: 0 0 96 168\n%%Title: constrained\n",
+        lines: "%v 1\nnewpath 36 36 moveto 60 36 lineto stroke\n%v 2\nnewpath 36 60 moveto 36 60 lineto stroke\n%v 3\nnewpath 60 60 moveto 60 60 lineto stroke\n%v 4\nnewpath 36 84 moveto 60 84 lineto stroke\n%v 5\nnewpath 36 108 moveto 36 108 lineto stroke\n%v 6\nnewpath 60 108 moveto 60 108 lineto stroke\n%v 7\nnewpath 36 132 moveto 60 132 lineto stroke\n%e 0 1 2\nnewpath 36 36 moveto 36 60 lineto stroke\n%e 1 1 3\nnewpath 60 36 moveto 60 60 lineto stroke\n%e 2 2 4\nnewpath 36 60 moveto 36 84 lineto stroke\n%e 3 3 4\nnewpath 60 60 moveto 60 84 lineto stroke\n%e 4 4 5\nnewpath 36 84 moveto 36 108 lineto stroke\n%e 5 4 6\nnewpath 60 84 moveto 60 108 lineto stroke\n%e 6 5 7\nnewpath 36 108 moveto 36 132 lineto stroke\n%e 7 6 7\nnewpath 60 108 moveto 60 132 lineto stroke\n%%EOF\n",
+    },
+    Drawn {
+        words: "draw constrained",
+        file: b"graph [ node [ id 1 ] node [ id 2 ] node [ id 3 ] node [ id 4 ] edge [ source 1 target 2 ] edge [ source 2 target 4 ] edge [ source 2 target 3 ] edge [ source 1 target 3 ] edge [ source 3 target 4 ] path [ e 0 e 2 e 4 ] ]\n",
+        title: "%%BoundingBox: 0 0 120 144\n%%Title: constrained\n",
+        lines: "%v 1\nnewpath 36 36 moveto 84 36 lineto stroke\n%v 2\nnewpath 36 60 moveto 60 60 lineto stroke\n%v 3\nnewpath 60 84 moveto 84 84 lineto stroke\n%v 4\nnewpath 36 108 moveto 84 108 lineto stroke\n%e 0 1 2\nnewpath 60 36 moveto 60 60 lineto stroke\n%e 1 2 4\nnewpath 36 60 moveto 36 108 lineto stroke\n%e 2 2 3\nnewpath 60 60 moveto 60 84 lineto stroke\n%e 3 1 3\nnewpath 84 36 moveto 84 84 lineto stroke\n%e 4 3 4\nnewpath 60 84 moveto 60 108 lineto stroke\n%%EOF\n",
+    },
+    Drawn {
+        words: "draw visibility",
+        file: b"graph [ node [ id 1 ] node [ id 2 ] edge [ source 1 target 2 ] path [ e 9 ] path [ ] ]\n",
+        title: "%%BoundingBox: 0 0 72 96\n%%Title: visibility\n",
+        lines: "%v 1\nnewpath 36 36 moveto 36 36 lineto stroke\n%v 2\nnewpath 36 60 moveto 36 60 lineto stroke\n%e 0 1 2\nnewpath 36 36 moveto 36 60 lineto stroke\n%%EOF\n",
+    },
 ];
 
 #[test]
@@ -378,6 +406,56 @@ fn draws_to_exact_bytes(rt: HostRuntime) -> Result<(), Fail> {
         text.append(row.lines.as_bytes())?;
         assert_eq!(rt; out.taken(), text.bytes(), "{}", row.words);
         assert_eq!(rt; diag.taken(), b"".as_slice(), "{}", row.words);
+    }
+    Ok(())
+}
+
+#[test]
+fn names_what_is_wrong_with_paths(rt: HostRuntime) -> Result<(), Fail> {
+    let rows = [
+        bad_path(
+            b"graph [ node [ id 1 ] node [ id 2 ] node [ id 3 ] node [ id 4 ] node [ id 5 ] node [ id 6 ] node [ id 7 ] edge [ source 1 target 2 ] edge [ source 1 target 3 ] edge [ source 2 target 4 ] edge [ source 3 target 4 ] edge [ source 4 target 5 ] edge [ source 4 target 6 ] edge [ source 5 target 7 ] edge [ source 6 target 7 ] path [ e 0 e 2 e 5 e 7 ] path [ e 1 e 3 e 4 e 6 ] ]\n",
+            b"path: 1 crosses path 0 at vertex 4\n",
+        ),
+        bad_path(
+            b"graph [ node [ id 1 ] node [ id 2 ] node [ id 3 ] node [ id 4 ] edge [ source 1 target 2 ] edge [ source 2 target 4 ] edge [ source 2 target 3 ] edge [ source 1 target 3 ] edge [ source 3 target 4 ] path [ e 0 e 4 ] ]\n",
+            b"path: 0 is no directed path\n",
+        ),
+        bad_path(
+            b"graph [ node [ id 1 ] node [ id 2 ] node [ id 3 ] node [ id 4 ] edge [ source 1 target 2 ] edge [ source 2 target 4 ] edge [ source 2 target 3 ] edge [ source 1 target 3 ] edge [ source 3 target 4 ] path [ e 0 ] path [ e 0 ] ]\n",
+            b"path: 1 shares edge 0\n",
+        ),
+        bad_path(
+            b"graph [ node [ id 1 ] node [ id 2 ] node [ id 3 ] node [ id 4 ] edge [ source 1 target 2 ] edge [ source 2 target 4 ] edge [ source 2 target 3 ] edge [ source 1 target 3 ] edge [ source 3 target 4 ] path [ e 9 ] ]\n",
+            b"path: 0 names unknown edge 9\n",
+        ),
+        bad_path(
+            b"graph [ node [ id 1 ] node [ id 2 ] node [ id 3 ] node [ id 4 ] edge [ source 1 target 2 ] edge [ source 1 target 3 ] edge [ source 2 target 4 ] edge [ source 3 target 4 ] path [ ] ]\n",
+            b"path: 0 is no directed path\n",
+        ),
+        bad_path(
+            b"graph [ node [ id 1 ] node [ id 2 ] node [ id 3 ] node [ id 4 ] edge [ source 1 target 2 ] edge [ source 1 target 3 ] edge [ source 2 target 4 ] edge [ source 3 target 4 ] path [ e 2 e 0 ] path [ e 9 ] ]\n",
+            b"path: 1 names unknown edge 9\n",
+        ),
+        bad_path(
+            b"graph [ node [ id 10 ] node [ id -3 ] node [ id 7 ] node [ id 40 ] node [ id 25 ] node [ id 62 ] node [ id 1 ] edge [ id 70 source 10 target -3 ] edge [ id 11 source 10 target 7 ] edge [ id -5 source -3 target 40 ] edge [ id 13 source 7 target 40 ] edge [ id 100 source 40 target 25 ] edge [ id 15 source 40 target 62 ] edge [ id 60 source 25 target 1 ] edge [ id 17 source 62 target 1 ] path [ e 70 e -5 ] path [ e 11 e 13 e 100 ] path [ e 60 ] path [ e 13 ] ]\n",
+            b"path: 3 shares edge 13\n",
+        ),
+        bad_path(
+            b"graph [ node [ id 10 ] node [ id -3 ] node [ id 7 ] node [ id 40 ] node [ id 25 ] node [ id 62 ] node [ id 1 ] edge [ id 70 source 10 target -3 ] edge [ id 11 source 10 target 7 ] edge [ id -5 source -3 target 40 ] edge [ id 13 source 7 target 40 ] edge [ id 100 source 40 target 25 ] edge [ id 15 source 40 target 62 ] edge [ id 60 source 25 target 1 ] edge [ id 17 source 62 target 1 ] path [ e 70 e -5 e 15 e 17 ] path [ e 11 e 13 e 100 e 60 ] ]\n",
+            b"path: 1 crosses path 0 at vertex 40\n",
+        ),
+        bad_path(
+            b"graph [ node [ id 10 ] node [ id -3 ] node [ id 7 ] node [ id 40 ] node [ id 25 ] node [ id 62 ] node [ id 1 ] edge [ id 70 source 10 target -3 ] edge [ id 11 source 10 target 7 ] edge [ id -5 source -3 target 40 ] edge [ id 13 source 7 target 40 ] edge [ id 100 source 40 target 25 ] edge [ id 15 source 40 target 62 ] edge [ id 60 source 25 target 1 ] edge [ id 17 source 62 target 1 ] path [ e 70 e -5 e 15 e 17 ] path [ e 11 e 13 e 100 e 60 ] path [ e 70 e 3 e 4 ] ]\n",
+            b"path: 2 names unknown edge 3\n",
+        ),
+        bad_path(
+            b"graph [ node [ id 10 ] node [ id -3 ] node [ id 7 ] node [ id 40 ] node [ id 25 ] node [ id 62 ] node [ id 1 ] edge [ id 70 source 10 target -3 ] edge [ id 11 source 10 target 7 ] edge [ id -5 source -3 target 40 ] edge [ id 13 source 7 target 40 ] edge [ id 100 source 40 target 25 ] edge [ id 15 source 40 target 62 ] edge [ id 60 source 25 target 1 ] edge [ id 17 source 62 target 1 ] path [ ] path [ e 11 e 8 e 9 ] ]\n",
+            b"path: 1 names unknown edge 8\n",
+        ),
+    ];
+    for row in &rows {
+        check(&rt, rt.alloc(), row)?;
     }
     Ok(())
 }

@@ -15,7 +15,7 @@ use st_test::{DigraphFault, EmbedFault, Poles, StGraph, poles, test};
 use std::alloc::Global;
 
 // The name of a vertex.
-fn name_of_vertex(spec: &GraphSpec, v: VertexId) -> i64
+pub(crate) fn name_of_vertex(spec: &GraphSpec, v: VertexId) -> i64
     requires { v.0 < spec.now.graph.vertices }
     ensures { result ≡ vertex_name spec.now v.0 }
 {
@@ -23,7 +23,7 @@ fn name_of_vertex(spec: &GraphSpec, v: VertexId) -> i64
 }
 
 // The name of an edge.
-fn name_of_edge(spec: &GraphSpec, e: EdgeId) -> i64
+pub(crate) fn name_of_edge(spec: &GraphSpec, e: EdgeId) -> i64
     requires { e.0 < length spec.now.graph.ends }
     ensures { result ≡ edge_name spec.now e.0 }
 {

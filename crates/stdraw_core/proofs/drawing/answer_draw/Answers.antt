@@ -4,6 +4,9 @@ use Rattle.stdraw_core.proofs.DrawingLemmas.{names_meet, edges_within, names_are
 use Rattle.stdraw_core.specs.Drawing.{IsPictureOf}
 use Rattle.stdraw_core.proofs.drawing.answer_draw.Goals as goal
 
+pub picture_of-requires-clause-sides : goal.picture_of-requires-clause-sides
+picture_of-requires-clause-sides c = record { sides = c.in-Ok.ensures; sizes = c.facts.ensures.sizes }
+
 pub picture_of-requires-clause-names : goal.picture_of-requires-clause-names
 picture_of-requires-clause-names c =
     subst (AreNames c.in-Ok.sides) (sym (names_are c.args.spec.now c.names.result.now c.names.ensures.vertex c.names.ensures.edge c.names.ensures.label))
@@ -17,7 +20,7 @@ returns-in-Ok-picture_of c = record {
   sides = c.in-Ok.sides;
   are = record { sides = c.in-Ok.ensures; sizes = c.facts.ensures.sizes };
   picture = c.in-Ok-picture_of.picture;
-  is = subst (λ z. IsPictureOf c.args.form c.args.graph c.in-Ok.sides z c.in-Ok-picture_of.picture) (names_are c.args.spec.now c.names.result.now c.names.ensures.vertex c.names.ensures.edge c.names.ensures.label) c.in-Ok-picture_of.ensures;
+  is = subst (λ z. IsPictureOf c.args.form c.args.spec.now c.args.graph c.in-Ok.sides z c.in-Ok-picture_of.picture) (names_are c.args.spec.now c.names.result.now c.names.ensures.vertex c.names.ensures.edge c.names.ensures.label) c.in-Ok-picture_of.ensures.picture;
   rules = c.items.ensures.rules;
   told = c.picture.ensures;
 }
