@@ -1,0 +1,10 @@
+pub mod ChunkLemmas
+pub mod Ears
+pub mod MadeLemmas
+pub mod PlainLemmas
+pub mod EarLists
+pub mod DefaultOrders
+pub mod FanLemmas
+pub mod BesideLemmas
+pub mod GrowthLemmas
+pub mod AcceptedLemmas
