@@ -1,5 +1,5 @@
 -- A graph that is made, as a plain graph: it has its default orders, and passes the tests.
-use Rattle.std.proofs.Common.{ℕ, List, [], ◌≡◌, ◌≤◌, ◌+◌, sym, ap, ◌∙◌, subst, arith, Result, Ok, Err, IfOk}
+use Rattle.std.proofs.Common.{[], ◌≡◌, sym, ap, ◌∙◌, subst, arith, Result, Ok, Err, IfOk}
 use Rattle.std.proofs.lemmas.List.FromFn.{get_or-map-range_with_len}
 use Rattle.st_ids.specs.Graph.{Graph}
 use Rattle.st_ids.specs.declared.ids.NoMemory.{NoMemory}
