@@ -1,11 +1,15 @@
--- The words of a query, read two by two.
+-- The words of a query, read two by two, and those of a generated graph.
 use Rattle.std.proofs.Common.{◌≡◌, ℕ, ◌+◌, ◌*◌, ◌<◌, ◌≤◌, ℤ, pos, inl, inr, List, [], ◌∷◌, ◌++◌, length, get_or, map, take, drop, ◌-◌, codes, sym, ap, ◌∙◌, subst, arith}
-use Rattle.std.proofs.lemmas.List.{length_push, get_or_push, get_or_append_left, get_or-map}
+use Rattle.std.proofs.lemmas.List.{length_push, get_or_push, get_or_append_left, get_or-map, take_all, drop-map, length-drop}
 use Rattle.std.proofs.Math.Seq.{take-length}
 use Rattle.std.proofs.lemmas.Bool.{cases_lt}
+use Rattle.st_words.specs.declared.words.Command.{Command}
 use Rattle.st_words.specs.declared.words.Command.TheVariants.{Query, Test, Draw}
 use Rattle.st_words.specs.declared.words.DrawForm.{DrawForm}
-use Rattle.st_words.specs.Words.{IsName, AreNames, AreForm, IsCommand}
+use Rattle.st_words.specs.declared.words.Recipe.{Recipe}
+use Rattle.st_words.specs.declared.words.Task.{Task}
+use Rattle.st_words.specs.declared.words.Task.TheVariants.{File, Gen, Bench}
+use Rattle.st_words.specs.Words.{IsName, AreNames, AreForm, IsRecipe, AreRecipe, IsCommand, IsTask, IsFileless}
 
 -- the first i pairs of words write the names of the pairs
 pub record AreFirstNames (words : List (List ℕ)) (i : ℕ) (pairs : List (ℤ × ℤ)) : Type 0 where
@@ -81,3 +85,34 @@ one_item (y ∷ z ∷ ys) x l m is = absurd (omega arith)
 -- the words of a drawing
 pub draw_words : (words names : List (List ℕ)) (name : List ℕ) (form : DrawForm) → words ≡ name ∷ names → name ≡ codes "draw" → AreForm names form → IsCommand words (Draw form)
 draw_words words names name form is called are = subst (λ (w : List (List ℕ)). IsCommand w (Draw form)) (sym is) (called, are)
+
+-- ---- a generated graph
+-- words in which two places write no recipe ask for no generated graph
+pub no_recipe : (words : List (List ℕ)) → ((r : Recipe) → AreRecipe words r → ⊥) → (task : Task) → IsFileless task → IsTask words task → ⊥
+no_recipe words none (File command) l h = l
+no_recipe words none (Gen r) l h = none r h.2
+no_recipe words none (Bench r form) l h = none r h.1
+
+module _ {X : Type 0} (f : X → List ℕ) (words : List X) (a b : X) (there : 3 ≤ length words) (first : a ≡ get_or words 1 a) (second : b ≡ get_or words 2 b) where
+  -- what the second and the third word write is what the words write
+  pub recipe_in : (r : Recipe) → IsRecipe (f a) (f b) r → AreRecipe (map f words) r
+  recipe_in r h =
+      subst (λ z. IsRecipe z (get_or (map f words) 2 []) r) (image_at f words 1 a [] (omega arith) first)
+      (subst (λ z. IsRecipe (f a) z r) (image_at f words 2 b [] (omega arith) second) h)
+
+  pub recipe_out : (r : Recipe) → AreRecipe (map f words) r → IsRecipe (f a) (f b) r
+  recipe_out r h =
+      subst (λ z. IsRecipe z (f b) r) (sym (image_at f words 1 a [] (omega arith) first))
+      (subst (λ z. IsRecipe (get_or (map f words) 1 []) z r) (sym (image_at f words 2 b [] (omega arith) second)) h)
+
+-- words that ask neither for a generated graph nor for a command on a file ask for nothing
+pub no_task : (words : List (List ℕ)) → ((task : Task) → IsFileless task → IsTask words task → ⊥) → ((command : Command) → IsCommand words command → ⊥) → (task : Task) → IsTask words task → ⊥
+no_task words a b (File command) h = b command h
+no_task words a b (Gen r) h = a (Gen r) tt h
+no_task words a b (Bench r form) h = a (Bench r form) tt h
+
+-- the words behind the first three, as code has them
+pub behind_three : {X : Type 0} (f : X → List ℕ) (words : List X) → map f (take (length words - 3) (drop 3 words)) ≡ drop 3 (map f words)
+behind_three f words =
+    let all : take (length words - 3) (drop 3 words) ≡ drop 3 words = take_all (length words - 3) (drop 3 words) (omega (arith, length-drop 3 words)) in
+    ap (map f) all ∙ sym (drop-map f 3 words)

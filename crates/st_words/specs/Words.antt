@@ -2,16 +2,22 @@
 --   IsName word n        the word writes the vertex name n
 --   AreNames words ps    the words write the names of the pairs, one after the other
 --   AreForm words f      the words name the form of drawing
---   IsCommand words c    the words are a form of the command
-use Rattle.std.specs.Prelude.{◌≡◌, ℕ, ◌+◌, ◌*◌, ◌<◌, ◌≤◌, ℤ, pos, FitsSigned, List, [], ◌∷◌, length, slice_index_or, codes}
+--   IsCommand words c    the words are a form of the command on a file
+--   IsNumber word n      the word writes the number n, in digits alone
+--   IsRecipe a b r       two words write which graph is generated
+--   IsTask words t       the words ask for the task: a command on a file, or something about a generated graph
+use Rattle.std.specs.Prelude.{◌≡◌, ℕ, ◌+◌, ◌*◌, ◌^◌, ◌<◌, ◌≤◌, ℤ, pos, FitsSigned, List, [], ◌∷◌, length, drop, slice_index_or, codes}
 use Rattle.std.specs.Int.{w64}
-use Rattle.std.specs.Str.Parse.{IsNumeral, signed_digits_value, without_leading_sign}
+use Rattle.std.specs.Str.Parse.{IsNumeral, digits_value, signed_digits_value, without_leading_sign}
 use Rattle.st_words.specs.declared.words.Command.{Command}
 use Rattle.st_words.specs.declared.words.Command.TheVariants.{Query, Test, Draw}
 use Rattle.st_words.specs.declared.words.DrawForm.{DrawForm}
 use Rattle.st_words.specs.declared.words.DrawForm.TheVariants.{Visibility, Tessellation, Constrained, Polyline, Dominance}
+use Rattle.st_words.specs.declared.words.Recipe.{Recipe}
 use Rattle.st_words.specs.declared.words.Spot.{Spot}
 use Rattle.st_words.specs.declared.words.Spot.TheVariants.{Left, Middle, Right}
+use Rattle.st_words.specs.declared.words.Task.{Task}
+use Rattle.st_words.specs.declared.words.Task.TheVariants.{File, Gen, Bench}
 
 -- an optional sign and at least one digit, of a number in signed 64 bits
 pub record IsName (word : List ℕ) (n : ℤ) : Type 0 where
@@ -47,10 +53,47 @@ form_words Dominance = codes "dominance" ∷ []
 abbrev pub AreForm : List (List ℕ) → DrawForm → Type 0
 AreForm words form = words ≡ form_words form
 
--- the words are a form of the command
+-- the words are a form of the command on a file
 abbrev pub IsCommand : List (List ℕ) → Command → Type 0
 IsCommand [] command = ⊥
 IsCommand (name ∷ []) Test = name ≡ codes "test"
 IsCommand (name ∷ word ∷ words) Test = ⊥
 IsCommand (name ∷ words) (Draw form) = (name ≡ codes "draw") × AreForm words form
 IsCommand (name ∷ words) (Query pairs) = (name ≡ codes "query") × (1 ≤ length pairs) × (length pairs ≤ most_pairs) × AreNames words pairs
+
+-- one digit or more and nothing else; zeros may lead
+pub record IsNumber (word : List ℕ) (n : ℕ) : Type 0 where
+  pub digits : IsNumeral 10 word
+  pub value : digits_value 10 word ≡ n
+
+-- the greatest number of vertices of a generated graph
+abbrev pub most_vertices : ℕ
+most_vertices = 20000
+
+-- two words write a number of vertices within its limits and a seed of 64 bits
+pub record IsRecipe (size seed : List ℕ) (r : Recipe) : Type 0 where
+  pub vertices : IsNumber size r.vertices
+  pub least : 2 ≤ r.vertices
+  pub most : r.vertices ≤ most_vertices
+  pub words : IsNumber seed r.seed
+  pub fits : r.seed < 2 ^ 64
+
+-- the second and the third word write it
+abbrev pub AreRecipe : List (List ℕ) → Recipe → Type 0
+AreRecipe words r = IsRecipe (slice_index_or words 1 []) (slice_index_or words 2 []) r
+
+-- the words ask for the task; the form of a drawing stands last
+abbrev pub IsTask : List (List ℕ) → Task → Type 0
+IsTask words (File command) = IsCommand words command
+IsTask words (Gen r) = (length words ≡ 3) × (slice_index_or words 0 [] ≡ codes "gen") × AreRecipe words r
+IsTask words (Bench r form) = (slice_index_or words 0 [] ≡ codes "bench") × AreRecipe words r × AreForm (drop 3 words) form
+
+-- words ask for at most one task
+abbrev pub HasOneTask : Type 0
+HasOneTask = (words : List (List ℕ)) (t u : Task) → IsTask words t → IsTask words u → t ≡ u
+
+-- no file is read for the task
+abbrev pub IsFileless : Task → Type 0
+IsFileless (File command) = ⊥
+IsFileless (Gen r) = Unit {0}
+IsFileless (Bench r form) = Unit {0}

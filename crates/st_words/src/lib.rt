@@ -1,9 +1,10 @@
-//! The words of a command line, and the command that they ask for.
+//! The words of a command line, and what they ask for.
 //!
-//! Words are a fixed form by position; there are no options. `specs/Words.antt` says which words ask for which command
-//! (`IsCommand`), and words that ask for none are told exactly.
+//! Words are a fixed form by position; there are no options. `specs/Words.antt` says which words ask for which task
+//! (`IsTask`), and words that ask for none are told exactly.
 #![tactic(auto)]
 
+pub mod laws;
 mod words;
 
-pub use words::{Command, DrawForm, Pairs, Spot, command_of};
+pub use words::{Command, DrawForm, Pairs, Recipe, Spot, Task, command_of, task_of};

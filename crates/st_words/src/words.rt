@@ -1,13 +1,15 @@
 //! The words of a command line, and the command that they ask for.
-ghost use Rattle.std.specs.Prelude.{◌≡◌, ◌≢◌, ℤ, ◌+◌, ◌<◌, ◌≤◌, ◌^◌, ◌∷◌, ◌++◌, [], List, length, map, IfOk, OnOk, OnErr, IfSome, IfNone, MatchOption, Ok};
+ghost use Rattle.std.specs.Prelude.{◌≡◌, ◌≢◌, ℕ, ℤ, ◌+◌, ◌<◌, ◌≤◌, ◌^◌, ◌∷◌, ◌++◌, [], List, length, map, IfOk, OnOk, OnErr, IfSome, IfNone, MatchOption, Ok};
 ghost use Rattle.std.specs.String.{string_bytes};
-ghost use Rattle.st_words.specs.Words.{IsName, AreNames, AreForm, IsCommand, most_pairs, spot_word, form_words};
+ghost use Rattle.st_words.specs.Words.{IsName, IsNumber, AreNames, AreForm, AreRecipe, IsRecipe, IsCommand, IsTask, IsFileless, most_pairs, spot_word, form_words};
 
 use st_ids::NoMemory;
 use std::alloc::Global;
 use std::marker::Model;
 
 const MOST_PAIRS: usize = 1000;
+
+const MOST_VERTICES: u64 = 20_000;
 
 /// Pairs of vertex names, which a contract sees as a list.
 #[derive(Drop)]
@@ -76,7 +78,7 @@ pub enum DrawForm {
     Dominance,
 }
 
-/// What the words of a command line ask for.
+/// What is asked of the graph of a file.
 #[derive(Drop)]
 pub enum Command {
     /// Whether the first vertex of each pair reaches the second.
@@ -85,6 +87,24 @@ pub enum Command {
     Test,
     /// A drawing of the graph.
     Draw(DrawForm),
+}
+
+/// Which graph is generated: its number of vertices, and where its random words begin.
+#[derive(Clone, Copy)]
+pub struct Recipe {
+    pub vertices: u32,
+    pub seed: u64,
+}
+
+/// What the words of a command line ask for.
+#[derive(Drop)]
+pub enum Task {
+    /// A command on the graph of a file.
+    File(Command),
+    /// The file of a generated graph.
+    Gen(Recipe),
+    /// The numbers of a drawing of a generated graph.
+    Bench(Recipe, DrawForm),
 }
 
 // The vertex name that a word writes.
@@ -174,7 +194,7 @@ fn form_of(words: &[String]) -> Option<DrawForm>
     }
 }
 
-/// The command that the words ask for; `None` where they are no form of a command.
+/// The command on a file that the words ask for; `None` where they are no form of one.
 ///
 /// Cost: one pass over the words, one list of pairs.
 pub fn command_of(alloc: Global, words: &[String]) -> Result<Option<Command>, NoMemory>
@@ -198,5 +218,70 @@ pub fn command_of(alloc: Global, words: &[String]) -> Result<Option<Command>, No
     match pairs_of(alloc, names)? {
         Some(pairs) => Ok(Some(Command::Query(pairs))),
         None => Ok(None),
+    }
+}
+
+// The number below 2^64 that a word of digits alone writes.
+fn number_of(word: &String) -> Option<u64>
+    ensures some { IfSome result (λ n. IsNumber (string_bytes word.now) n) }
+    ensures none { IfNone result ((n : ℕ) → n < 2 ^ 64 → ¬ IsNumber (string_bytes word.now) n) }
+{
+    let bytes = word.as_bytes();
+    if bytes.is_empty() || bytes[0] == b'+' {
+        return None;
+    }
+    word.as_str().parse::<u64>().ok()
+}
+
+// The number of vertices, within its limits, and the seed that two words write.
+fn recipe_of(size: &String, seed: &String) -> Option<Recipe>
+    ensures { MatchOption result ((r : Recipe) → ¬ IsRecipe (string_bytes size.now) (string_bytes seed.now) r) (λ r. IsRecipe (string_bytes size.now) (string_bytes seed.now) r) }
+{
+    let vertices = number_of(size)?;
+    let seed = number_of(seed)?;
+    if vertices < 2 || vertices > MOST_VERTICES {
+        return None;
+    }
+    Some(Recipe {
+        vertices: vertices as u32,
+        seed,
+    })
+}
+
+// The task on a generated graph that the words ask for.
+fn generated(words: &[String]) -> Option<Task>
+    ensures some { IfSome result (λ task. IsTask (map string_bytes words.now) task) }
+    ensures none { IfNone result ((task : Task) → IsFileless task → ¬ IsTask (map string_bytes words.now) task) }
+{
+    if words.len() < 3 {
+        return None;
+    }
+    let Some(recipe) = recipe_of(&words[1], &words[2]) else {
+        return None;
+    };
+    if words.len() == 3 && words[0].as_str() == "gen" {
+        return Some(Task::Gen(recipe));
+    }
+    if words[0].as_str() != "bench" {
+        return None;
+    }
+    match form_of(&words[3..]) {
+        Some(form) => Some(Task::Bench(recipe, form)),
+        None => None,
+    }
+}
+
+/// What the words ask for; `None` where they are no form of a command.
+///
+/// Cost: one pass over the words, one list of pairs.
+pub fn task_of(alloc: Global, words: &[String]) -> Result<Option<Task>, NoMemory>
+    ensures { IfOk result (λ o. MatchOption o ((task : Task) → ¬ IsTask (map string_bytes words.now) task) (λ task. IsTask (map string_bytes words.now) task)) }
+{
+    match generated(words) {
+        Some(task) => Ok(Some(task)),
+        None => match command_of(alloc, words)? {
+            Some(command) => Ok(Some(Task::File(command))),
+            None => Ok(None),
+        },
     }
 }
