@@ -26,7 +26,7 @@ use Rattle.st_words.specs.declared.words.DrawForm.TheVariants.{Visibility, Tesse
 use Rattle.st_report.specs.declared.stop.Refusal.{Refusal}
 use Rattle.st_report.specs.declared.stop.Status.{Status}
 use Rattle.st_report.specs.declared.stop.Status.TheVariants as status
-use Rattle.stdraw_core.specs.Answer.{Asks, IsFew, IsTree, IsGraph, Answers, AnswersGraph, AnswersFile, IsAnswer}
+use Rattle.stdraw_core.specs.Answer.{Asks, IsFew, IsTree, IsGraph, Answers, AnswersGraph, AnswersFile, AnswersTask, IsAnswer}
 use Rattle.stdraw_core.specs.Drawing.{one_each, file_names, IsPictureOf, IsRightPicture, Draws, ShowsFile}
 use Rattle.stdraw_core.specs.Headline.{IsPlanarFile, HeadlineFor, Headline, QueryHeadlineFor, QueryHeadline}
 use Rattle.stdraw_core.specs.Query.{names_of}
@@ -34,6 +34,7 @@ use Rattle.stdraw_core.specs.Run.{IsTold, IsDone, EndsBy}
 use Rattle.stdraw_core.specs.Stages.{Then, refuses, goes_on, IsOne}
 use Rattle.stdraw_core.specs.Paths.{AreSidesIn}
 use Rattle.stdraw_core.specs.Verdict.{IsAccepted, IsFound}
+use Rattle.st_words.specs.declared.words.Task.TheVariants.{File}
 use Rattle.st_words.specs.Words.{IsCommand}
 use Rattle.stdraw_core.proofs.DrawingLemmas.{found, names_meet}
 use Rattle.stdraw_core.proofs.OneAnswer.{asks_one, few_one, tree_one, graph_one, consistent, query_err, known_unknown}
@@ -42,7 +43,7 @@ use Rattle.stdraw_core.proofs.StageLemmas.{same_ok, mixed}
 
 -- ---- a stage that has found its value
 -- what follows is what the next stage says of that value
-next_says : {A B : Type 0} (first : Result A Refusal → Type 0) (next : A → Result B Refusal → Type 0) → IsOne first → (a : A) → first (Ok a) → (answer : Result B Refusal) → Then first next answer → next a answer
+pub next_says : {A B : Type 0} (first : Result A Refusal → Type 0) (next : A → Result B Refusal → Type 0) → IsOne first → (a : A) → first (Ok a) → (answer : Result B Refusal) → Then first next answer → next a answer
 next_says first next one a h answer (refuses r k e) = absurd (mixed a r (one (Ok a) (Err r) h k))
 next_says first next one a h answer (goes_on b k f) = subst (λ z. next z answer) (sym (same_ok a b (one (Ok a) (Ok b) h k))) f
 
@@ -58,14 +59,14 @@ value_found first next b (goes_on a k f) = record { value = a; is = k; goes = f 
 
 -- ---- what was answered to the words of a command
 -- the bytes that the source had left are those that were answered
-same_bytes : (left : Option (List ℕ)) (bytes told : List ℕ) → left ≡ Some bytes → IfSome left (λ z. z ≡ told) → bytes ≡ told
+pub same_bytes : (left : Option (List ℕ)) (bytes told : List ℕ) → left ≡ Some bytes → IfSome left (λ z. z ≡ told) → bytes ≡ told
 same_bytes None bytes told e h = absurd (cc)
 same_bytes (Some z) bytes told e h = let same : z ≡ bytes = cc in sym same ∙ h
 
 pub asked : (command : Command) (words : List (List ℕ)) (left : Option (List ℕ)) (bytes told : List ℕ) → IsCommand words command → left ≡ Some bytes → IfSome left (λ z. z ≡ told)
     → (answer : Result (List ℕ) Refusal) → IsAnswer words told answer → AnswersFile command bytes answer
 asked command words left bytes told is e f answer h =
-    subst (λ z. AnswersFile command z answer) (sym (same_bytes left bytes told e f)) (next_says (Asks words) (λ command. AnswersFile command told) (asks_one words) command is answer h)
+    subst (λ z. AnswersFile command z answer) (sym (same_bytes left bytes told e f)) (next_says (Asks words) (λ task. AnswersTask task told) (asks_one words) (File command) is answer h)
 
 -- what is answered to a planar file is what the command answers about its graph
 pub planar_says : (command : Command) (bytes : List ℕ) (g : InputGraph) (st : StValue) → IsPlanarFile bytes g st → IsOne (IsAccepted g) → (answer : Result (List ℕ) Refusal) → AnswersFile command bytes answer → Answers command g st answer
@@ -107,11 +108,11 @@ shows_file : (bytes : List ℕ) (form : DrawForm) (g : InputGraph) (st : StValue
 shows_file bytes form g st out file h =
     let tables : IsConsistent g = consistent file.tree g file.graph in
     let is = found g st file.planar in
-    let here : IsSides h.sides = meaning_law st.map.graph st.source st.sink st.outer h.sides is.planar h.are.sides in
+    let here : IsSides h.depicts.sides = meaning_law st.map.graph st.source st.sink st.outer h.depicts.sides is.planar h.depicts.are.sides in
     record {
       drawn = h;
-      right = right_picture form g st h.sides tables is h.are here (file_names g) (names_meet g st h.sides tables is h.are.sides) h.picture h.is;
-      orders = λ v l. order_law st.map.graph st.source st.sink st.outer h.sides is.planar h.are.sides v l;
+      right = right_picture form g st h.depicts.sides tables is h.depicts.are here (file_names g) (names_meet g st h.depicts.sides tables is h.depicts.are.sides) h.picture h.depicts.is;
+      orders = λ v l. order_law st.map.graph st.source st.sink st.outer h.depicts.sides is.planar h.depicts.are.sides v l;
     }
 
 -- ---- the endings

@@ -5,8 +5,12 @@ pub mod DominanceLemmas
 pub mod PathLemmas
 pub mod StageLemmas
 pub mod VerdictOne
+pub mod BenchLemmas
+pub mod GeneratedLemmas
+pub mod GeneratedOne
 pub mod OneAnswer
 pub mod RunLemmas
 pub mod HeadlineLemmas
+pub mod CompleteLemmas
 pub mod AnswerLemmas
 pub mod QueryLemmas

@@ -14,163 +14,40 @@ use Rattle.st_words.specs.declared.words.Command.{Command}
 use Rattle.st_words.specs.declared.words.Command.TheVariants.{Query, Test, Draw}
 use Rattle.st_words.specs.declared.words.DrawForm.{DrawForm}
 use Rattle.st_words.specs.declared.words.DrawForm.TheVariants.{Visibility, Tessellation, Constrained, Polyline, Dominance}
-use Rattle.st_words.specs.declared.words.Spot.{Spot}
-use Rattle.st_words.specs.declared.words.Spot.TheVariants.{Left, Middle, Right}
 use Rattle.st_report.specs.declared.stop.Refusal.{Refusal}
 use Rattle.st_report.specs.declared.stop.Refusal.TheVariants.{Words, TooManyBytes, Gml, Shape, NotSt, Path, UnknownVertex}
 use Rattle.stdraw_core.specs.Stages.{IsOne}
-use Rattle.st_words.specs.Words.{IsName, AreNames, form_words, AreForm, IsCommand}
+use Rattle.st_words.specs.declared.words.Recipe.{Recipe}
+use Rattle.st_words.specs.declared.words.Task.{Task}
+use Rattle.st_words.specs.declared.words.Task.TheVariants.{File, Gen, Bench}
+use Rattle.st_words.specs.Words.{IsTask}
+use Rattle.st_words.proofs.OneTask.{one_task_law}
 use Rattle.stdraw_core.specs.Query.{names_of, AreKnown, IsFirstUnknown, IsLine, line_of_pair, AreLines, no_line, one_line, AreAnswers}
 use Rattle.stdraw_core.specs.Verdict.{IsAccepted, IsFound}
 use Rattle.stdraw_core.specs.Paths.{AreSidesIn}
-use Rattle.stdraw_core.specs.Answer.{Asks, IsFew, IsTree, IsGraph, AnswersQuery, AnswersTest, AnswersDraw, Answers, AnswersGraph, AnswersFile, HaveOneAnswer, byte_limit}
+use Rattle.stdraw_core.specs.Answer.{Asks, IsFew, IsTree, IsGraph, AnswersQuery, AnswersTest, AnswersDraw, Answers, AnswersGraph, AnswersFile, AnswersTask, HaveOneAnswer, byte_limit}
 use Rattle.st_ids.specs.declared.names.Names.{Names}
 use Rattle.st_shape.specs.declared.point.Point.{Point}
 use Rattle.st_shape.specs.Rules.{Drawing}
+use Rattle.st_map.specs.Embedded.{edges, faces}
 use Rattle.st_sides.specs.Sides.{SidesValue, IsSides}
 use Rattle.st_sides.proofs.MeaningLemmas.{meaning_law}
 use Rattle.st_sides.proofs.OneValueLemmas.{one_value_law}
 use Rattle.eps_core.specs.Text.{text}
 use Rattle.draw_dom.specs.Points.{point_of}
 use Rattle.draw_vis.proofs.SameLemmas.{pictures_law}
-use Rattle.stdraw_core.specs.Drawing.{one_each, file_names, IsPictureOf, Draws}
+use Rattle.stdraw_core.specs.Drawing.{one_each, file_names, IsPictureOf, Depicts, Draws}
+use Rattle.stdraw_core.specs.Generated.{bench_line, IsLineOn, IsBenched}
+use Rattle.stdraw_core.proofs.GeneratedOne.{same_generated, file_same}
 use Rattle.stdraw_core.proofs.DrawingLemmas.{found}
 use Rattle.stdraw_core.proofs.PolylineLemmas.{one_polyline}
 use Rattle.stdraw_core.proofs.DominanceLemmas.{one_dominance, one_points}
 use Rattle.stdraw_core.proofs.PathLemmas.{drawn_valid, one_aligned, same_refusal, valid_not_refused}
-use Rattle.stdraw_core.proofs.StageLemmas.{ok, err, one_then, same_bool}
+use Rattle.stdraw_core.proofs.StageLemmas.{ok, err, same_ok, one_then, same_bool}
 use Rattle.stdraw_core.proofs.VerdictOne.{accepted_one}
 
--- ---- the command
-pair_same : (p q : ℤ × ℤ) → p.0 ≡ q.0 → p.1 ≡ q.1 → p ≡ q
-pair_same p q e f = ap (λ (z : ℤ). let r : ℤ × ℤ = (z, p.1) in r) e ∙ ap (λ (z : ℤ). let r : ℤ × ℤ = (q.0, z) in r) f
-
-same_list : (ps qs : List (ℤ × ℤ)) → length ps ≡ length qs → ((i : ℕ) → i < length ps → get_or ps i (pos 0, pos 0) ≡ get_or qs i (pos 0, pos 0)) → ps ≡ qs
-same_list [] [] n each = refl
-same_list [] (q ∷ qs) n each = absurd (omega arith)
-same_list (p ∷ ps) [] n each = absurd (omega arith)
-same_list (p ∷ ps) (q ∷ qs) n each =
-    ap (λ (z : ℤ × ℤ). z ∷ ps) (each 0 (omega arith)) ∙ ap (λ (zs : List (ℤ × ℤ)). q ∷ zs) (same_list ps qs (omega arith) (λ i l. each (suc i) (omega arith)))
-
-same_name : (word : List ℕ) (n m : ℤ) → IsName word n → IsName word m → n ≡ m
-same_name word n m h k = sym h.value ∙ k.value
-
-same_names : (words : List (List ℕ)) (ps qs : List (ℤ × ℤ)) → AreNames words ps → AreNames words qs → ps ≡ qs
-same_names words ps qs h k =
-    let n : length ps ≡ length qs = omega (arith, h.size, k.size) in
-    same_list ps qs n (λ i l.
-    let l' : i < length qs = omega arith in
-    pair_same (get_or ps i (pos 0, pos 0)) (get_or qs i (pos 0, pos 0))
-    (same_name (get_or words (2 * i) []) _ _ (h.first i l) (k.first i l'))
-    (same_name (get_or words (2 * i + 1) []) _ _ (h.second i l) (k.second i l')))
-
--- the words are told apart by their first letters
-test_no_draw : codes "test" ≡ codes "draw" → ⊥
-test_no_draw e = let q : 116 ≡ 100 = ap (λ (z : List ℕ). get_or z 0 0) e in omega (arith, q)
-
-draw_no_query : codes "draw" ≡ codes "query" → ⊥
-draw_no_query e = let q : 100 ≡ 113 = ap (λ (z : List ℕ). get_or z 0 0) e in omega (arith, q)
-
--- the first letter of the first word, and of the second
-first_letter : List (List ℕ) → ℕ
-first_letter words = get_or (get_or words 0 []) 0 0
-
-second_letter : List (List ℕ) → ℕ
-second_letter words = get_or (get_or words 1 []) 0 0
-
--- the forms and the spots by the letters of their words
-form_letter : DrawForm → ℕ
-form_letter Visibility = 118
-form_letter Tessellation = 116
-form_letter Constrained = 99
-form_letter (Polyline spot) = 112
-form_letter Dominance = 100
-
-spot_letter : Spot → ℕ
-spot_letter Left = 108
-spot_letter Middle = 109
-spot_letter Right = 114
-
-form_first : (form : DrawForm) → first_letter (form_words form) ≡ form_letter form
-unfolding first_letter form_letter
-form_first Visibility = refl
-form_first Tessellation = refl
-form_first Constrained = refl
-form_first (Polyline spot) = refl
-form_first Dominance = refl
-
-spot_second : (spot : Spot) → second_letter (form_words (Polyline spot)) ≡ spot_letter spot
-unfolding second_letter spot_letter
-spot_second Left = refl
-spot_second Middle = refl
-spot_second Right = refl
-
-same_spot : (s s' : Spot) → spot_letter s ≡ spot_letter s' → s ≡ s'
-unfolding spot_letter
-same_spot Left Left e = refl
-same_spot Left Middle e = absurd (omega (arith, e))
-same_spot Left Right e = absurd (omega (arith, e))
-same_spot Middle Left e = absurd (omega (arith, e))
-same_spot Middle Middle e = refl
-same_spot Middle Right e = absurd (omega (arith, e))
-same_spot Right Left e = absurd (omega (arith, e))
-same_spot Right Middle e = absurd (omega (arith, e))
-same_spot Right Right e = refl
-
--- a form has words of its own
-by_letters : (f f' : DrawForm) → form_words f ≡ form_words f' → form_letter f ≡ form_letter f' → f ≡ f'
-unfolding form_letter
-by_letters Visibility Visibility w e = refl
-by_letters Visibility Tessellation w e = absurd (omega (arith, e))
-by_letters Visibility Constrained w e = absurd (omega (arith, e))
-by_letters Visibility (Polyline s) w e = absurd (omega (arith, e))
-by_letters Visibility Dominance w e = absurd (omega (arith, e))
-by_letters Tessellation Visibility w e = absurd (omega (arith, e))
-by_letters Tessellation Tessellation w e = refl
-by_letters Tessellation Constrained w e = absurd (omega (arith, e))
-by_letters Tessellation (Polyline s) w e = absurd (omega (arith, e))
-by_letters Tessellation Dominance w e = absurd (omega (arith, e))
-by_letters Constrained Visibility w e = absurd (omega (arith, e))
-by_letters Constrained Tessellation w e = absurd (omega (arith, e))
-by_letters Constrained Constrained w e = refl
-by_letters Constrained (Polyline s) w e = absurd (omega (arith, e))
-by_letters Constrained Dominance w e = absurd (omega (arith, e))
-by_letters (Polyline s) Visibility w e = absurd (omega (arith, e))
-by_letters (Polyline s) Tessellation w e = absurd (omega (arith, e))
-by_letters (Polyline s) Constrained w e = absurd (omega (arith, e))
-by_letters (Polyline s) (Polyline s') w e = ap (λ z. Polyline z) (same_spot s s' (sym (spot_second s) ∙ ap second_letter w ∙ spot_second s'))
-by_letters (Polyline s) Dominance w e = absurd (omega (arith, e))
-by_letters Dominance Visibility w e = absurd (omega (arith, e))
-by_letters Dominance Tessellation w e = absurd (omega (arith, e))
-by_letters Dominance Constrained w e = absurd (omega (arith, e))
-by_letters Dominance (Polyline s) w e = absurd (omega (arith, e))
-by_letters Dominance Dominance w e = refl
-
-same_form : (words : List (List ℕ)) (f f' : DrawForm) → AreForm words f → AreForm words f' → f ≡ f'
-same_form words f f' h k =
-    let w : form_words f ≡ form_words f' = sym h ∙ k in
-    by_letters f f' w (sym (form_first f) ∙ ap first_letter w ∙ form_first f')
-
--- a query has more than one word
-no_pairs : (name : List ℕ) (ps : List (ℤ × ℤ)) → IsCommand (name ∷ []) (Query ps) → ⊥
-no_pairs name ps h = omega (arith, h.1, h.3.size)
-
-same_command : (words : List (List ℕ)) (c d : Command) → IsCommand words c → IsCommand words d → c ≡ d
-same_command [] c d h k = absurd h
-same_command (name ∷ []) Test Test h k = refl
-same_command (name ∷ []) Test (Query ps) h k = absurd (no_pairs name ps k)
-same_command (name ∷ []) (Query ps) Test h k = absurd (no_pairs name ps h)
-same_command (name ∷ []) Test (Draw f) h k = absurd (test_no_draw (sym h ∙ k.0))
-same_command (name ∷ []) (Draw f) Test h k = absurd (test_no_draw (sym k ∙ h.0))
-same_command (name ∷ word ∷ words) Test d h k = absurd h
-same_command (name ∷ word ∷ words) (Query ps) Test h k = absurd k
-same_command (name ∷ word ∷ words) (Draw f) Test h k = absurd k
-same_command (name ∷ words) (Draw f) (Draw f') h k = ap (λ z. Draw z) (same_form words f f' h.1 k.1)
-same_command (name ∷ words) (Draw f) (Query ps) h k = absurd (draw_no_query (sym h.0 ∙ k.0))
-same_command (name ∷ words) (Query ps) (Draw f) h k = absurd (draw_no_query (sym k.0 ∙ h.0))
-same_command (name ∷ words) (Query ps) (Query qs) h k = ap (λ (z : List (ℤ × ℤ)). Query z) (same_names words ps qs h.3 k.3)
-
-asks_err : (words : List (List ℕ)) (r : Refusal) → Asks words (Err r) → (r ≡ Words) × ((c : Command) → IsCommand words c → ⊥)
+-- ---- the task
+asks_err : (words : List (List ℕ)) (r : Refusal) → Asks words (Err r) → (r ≡ Words) × ((task : Task) → IsTask words task → ⊥)
 asks_err words Words h = (refl, h)
 asks_err words TooManyBytes h = absurd h
 asks_err words (Gml f) h = absurd h
@@ -180,7 +57,7 @@ asks_err words (Path why) h = absurd h
 asks_err words (UnknownVertex n) h = absurd h
 
 pub asks_one : (words : List (List ℕ)) → IsOne (Asks words)
-asks_one words (Ok c) (Ok d) h k = ok c d (same_command words c d h k)
+asks_one words (Ok c) (Ok d) h k = ok c d (one_task_law words c d h k)
 asks_one words (Ok c) (Err s) h k = absurd ((asks_err words s k).1 c h)
 asks_one words (Err r) (Ok d) h k = absurd ((asks_err words r h).1 d k)
 asks_one words (Err r) (Err s) h k = err r s ((asks_err words r h).0 ∙ sym (asks_err words s k).0)
@@ -330,12 +207,19 @@ same_picture Constrained g st x tables at are is N d d' h k = one_aligned g st t
 same_picture (Polyline spot) g st x tables at are is N d d' h k = one_polyline st.map.graph st.source st.sink st.outer x are.sides is spot N d d' h k
 same_picture Dominance g st x tables at are is N d d' h k = one_dominance st x at.planar are.sides is N d d' h k
 
-same_drawing : (form : DrawForm) (g : InputGraph) (st : StValue) → IsConsistent g → IsFound g st → (a b : List ℕ) → Draws form g st a → Draws form g st b → a ≡ b
-same_drawing form g st tables is a b h k =
+one_depicted : (form : DrawForm) (g : InputGraph) (st : StValue) → IsConsistent g → IsFound g st → (d d' : Drawing) → Depicts form g st d → Depicts form g st d' → d ≡ d'
+one_depicted form g st tables is d d' h k =
     let one : h.sides ≡ k.sides = one_value_law st.map.graph st.source st.sink st.outer h.sides k.sides is.planar h.are.sides h.are.sizes k.are.sides k.are.sizes in
     let here : IsSides h.sides = meaning_law st.map.graph st.source st.sink st.outer h.sides is.planar h.are.sides in
-    let moved : IsPictureOf form g st h.sides (file_names g) k.picture = subst (λ (z : SidesValue). IsPictureOf form g st z (file_names g) k.picture) (sym one) k.is in
-    h.told ∙ ap text (same_picture form g st h.sides tables is h.are here (file_names g) h.picture k.picture h.is moved) ∙ sym k.told
+    let moved : IsPictureOf form g st h.sides (file_names g) d' = subst (λ (z : SidesValue). IsPictureOf form g st z (file_names g) d') (sym one) k.is in
+    same_picture form g st h.sides tables is h.are here (file_names g) d d' h.is moved
+
+same_drawing : (form : DrawForm) (g : InputGraph) (st : StValue) → IsConsistent g → IsFound g st → (a b : List ℕ) → Draws form g st a → Draws form g st b → a ≡ b
+same_drawing form g st tables is a b h k = h.told ∙ ap text (one_depicted form g st tables is h.picture k.picture h.depicts k.depicts) ∙ sym k.told
+
+same_line_on : (form : DrawForm) (g : InputGraph) (st : StValue) → IsConsistent g → IsFound g st → (a b : List ℕ) → IsLineOn form g st a → IsLineOn form g st b → a ≡ b
+same_line_on form g st tables is a b h k =
+    h.told ∙ ap (λ (z : Drawing). bench_line form st.map.graph.vertices (edges st.map.graph) (faces st.map.graph) z.frame (length (text z))) (one_depicted form g st tables is h.picture k.picture h.depicts k.depicts) ∙ sym k.told
 
 draw_one : (form : DrawForm) (g : InputGraph) (st : StValue) → IsConsistent g → IsFound g st → IsOne (AnswersDraw form g st)
 draw_one form g st tables is (Ok a) (Ok b) h k = ok a b (same_drawing form g st tables is a b h k)
@@ -361,5 +245,22 @@ module _ (answer_same : OnePolesAnswer) where
   file_answers_one c bytes = one_then (IsFew bytes) _ (few_one bytes)
       (λ u _. one_then (IsTree bytes) _ (tree_one bytes) (λ tree _. one_then (IsGraph tree) (AnswersGraph c) (graph_one tree) (λ g is. graph_answers_one c g (consistent tree g is))))
 
+  bench_same : (r : Recipe) (form : DrawForm) (a b : List ℕ) → IsBenched r form a → IsBenched r form b → a ≡ b
+  bench_same r form a b h k =
+      let graphs : h.g ≡ k.g = same_generated r h.g k.g h.is k.is in
+      let accepted : IsAccepted h.g (Ok k.st) = subst (λ (z : InputGraph). IsAccepted z (Ok k.st)) (sym graphs) k.planar in
+      let values : h.st ≡ k.st = same_ok h.st k.st (accepted_one answer_same h.g (Ok h.st) (Ok k.st) h.planar accepted) in
+      let line : IsLineOn form h.g k.st b = subst (λ (z : InputGraph). IsLineOn form z k.st b) (sym graphs) k.line in
+      same_line_on form h.g h.st h.is.tables (found h.g h.st h.planar) a b h.line (subst (λ (z : StValue). IsLineOn form h.g z b) (sym values) line)
+
+  task_answers_one : (task : Task) (bytes : List ℕ) → IsOne (AnswersTask task bytes)
+  task_answers_one (File c) bytes x y h k = file_answers_one c bytes x y h k
+  task_answers_one (Gen r) bytes (Ok a) (Ok b) h k = ok a b (file_same r a b h k)
+  task_answers_one (Gen r) bytes (Ok a) (Err s) h k = absurd k
+  task_answers_one (Gen r) bytes (Err s) y h k = absurd h
+  task_answers_one (Bench r form) bytes (Ok a) (Ok b) h k = ok a b (bench_same r form a b h k)
+  task_answers_one (Bench r form) bytes (Ok a) (Err s) h k = absurd k
+  task_answers_one (Bench r form) bytes (Err s) y h k = absurd h
+
 pub one_answer : OnePolesAnswer → HaveOneAnswer
-one_answer answer_same words bytes = one_then (Asks words) (λ command. AnswersFile command bytes) (asks_one words) (λ command _. file_answers_one answer_same command bytes)
+one_answer answer_same words bytes = one_then (Asks words) (λ task. AnswersTask task bytes) (asks_one words) (λ task _. task_answers_one answer_same task bytes)

@@ -142,7 +142,7 @@ module _ (g : InputGraph) (st : StValue) (tables : IsConsistent g) (is : IsFound
   pub drawn_valid : (form : DrawForm) (out : List ℕ) → Draws form g st out → HasValidPaths form g st
   drawn_valid Visibility out h = tt
   drawn_valid Tessellation out h = tt
-  drawn_valid Constrained out h = record { known = h.is.known; sides = h.sides; are = h.are; sound = h.is.sound }
+  drawn_valid Constrained out h = record { known = h.depicts.is.known; sides = h.depicts.sides; are = h.depicts.are; sound = h.depicts.is.sound }
   drawn_valid (Polyline spot) out h = tt
   drawn_valid Dominance out h = tt
 

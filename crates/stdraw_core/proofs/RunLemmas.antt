@@ -17,14 +17,16 @@ use Rattle.st_report.specs.declared.stop.Stop.{Stop}
 use Rattle.st_report.specs.declared.stop.Stop.TheVariants.{Refused, ReadFault, WriteFault, NoMemory}
 use Rattle.stdraw_core.specs.Stages.{Then, refuses, goes_on}
 use Rattle.stdraw_core.specs.Stops.{Gives}
-use Rattle.st_words.specs.Words.{IsCommand}
-use Rattle.stdraw_core.specs.Answer.{IsFew, IsTree, IsGraph, Answers, AnswersDraw, AnswersGraph, AnswersFile, byte_limit}
+use Rattle.st_words.specs.declared.words.Task.{Task}
+use Rattle.st_words.specs.declared.words.Task.TheVariants.{File, Gen, Bench}
+use Rattle.st_words.specs.Words.{IsCommand, IsTask, IsFileless, HasOneTask}
+use Rattle.stdraw_core.specs.Answer.{IsFew, IsTree, IsGraph, Answers, AnswersDraw, AnswersGraph, AnswersFile, AnswersTask, byte_limit}
 use Rattle.st_input.specs.InputGraph.{InputGraph}
 use Rattle.st_test.specs.Planar.{StValue}
 use Rattle.stdraw_core.specs.Verdict.{HasPoles, HasMap, IsPlanar, IsAccepted}
 use Rattle.st_report.specs.Lines.{stop_line, stop_status}
 use Rattle.st_report.specs.Telling.{Tells}
-use Rattle.stdraw_core.specs.Run.{Leaves, IsRefused, Decides, IsTold, EndsBy}
+use Rattle.stdraw_core.specs.Run.{Leaves, Reads, IsRefused, Decides, IsTold, EndsBy}
 
 -- ---- what was read
 -- the bytes that are answered, where these were taken
@@ -49,7 +51,7 @@ some_bytes None = ([], tt)
 some_bytes (Some xs) = (xs, refl)
 
 -- ---- refusals before the file is looked at
-pub words_refused : (words : List (List ℕ)) (old new : SourceState) → ((command : Command) → IsCommand words command → ⊥) → IsRefused words old new Words
+pub words_refused : (words : List (List ℕ)) (old new : SourceState) → ((task : Task) → IsTask words task → ⊥) → IsRefused words old new Words
 words_refused words old new none =
     let b = some_bytes old.left in
     record { bytes = b.0; told = b.1; answer = refuses Words none refl; leaves = tt }
@@ -61,7 +63,7 @@ length_refused words old new command asked h =
     record {
       bytes = b.bytes;
       told = b.told;
-      answer = goes_on command asked (refuses TooManyBytes (let l : byte_limit < length b.bytes = omega (arith, b.most) in l) refl);
+      answer = goes_on (File command) asked (refuses TooManyBytes (let l : byte_limit < length b.bytes = omega (arith, b.most) in l) refl);
       leaves = record { taken = h.taken; consumed = h.consumed; over = over; most = h.answered.1 };
     }
 
@@ -111,19 +113,53 @@ pub file_decided : (words : List (List ℕ)) (old new : SourceState) (command : 
     → Gives (AnswersFile command text) result → Decides words old new result
 file_decided words old new command text (Ok out) asked h end g =
     let b = read_bytes old.left new.left h.taken h.consumed in
-    record { bytes = b.bytes; told = b.told; answer = goes_on command asked (subst (λ z. AnswersFile command z (Ok out)) (h.answered.0 ∙ sym (b.whole end)) g); read = end }
+    record { bytes = b.bytes; told = b.told; answer = goes_on (File command) asked (subst (λ z. AnswersFile command z (Ok out)) (h.answered.0 ∙ sym (b.whole end)) g); task = File command; asked = asked; read = end }
 file_decided words old new command text (Err (Refused r)) asked h end g =
     let b = read_bytes old.left new.left h.taken h.consumed in
     let few : length text ≤ byte_limit = omega (arith, ap length h.answered.0, h.answered.1) in
     record {
       bytes = b.bytes;
       told = b.told;
-      answer = goes_on command asked (subst (λ z. AnswersFile command z (Err r)) (h.answered.0 ∙ sym (b.whole end)) g);
+      answer = goes_on (File command) asked (subst (λ z. AnswersFile command z (Err r)) (h.answered.0 ∙ sym (b.whole end)) g);
       leaves = leaves_nothing command text old.left new.left few end r g;
     }
 file_decided words old new command text (Err ReadFault) asked h end g = absurd g
 file_decided words old new command text (Err WriteFault) asked h end g = absurd g
 file_decided words old new command text (Err NoMemory) asked h end g = tt
+
+-- ---- the answer on a generated graph
+pub fileless_given : (task : Task) (bytes : List ℕ) (r : Refusal) → IsFileless task → AnswersTask task bytes (Err r) → ⊥
+fileless_given (File command) bytes r off h = off
+fileless_given (Gen recipe) bytes r off h = h
+fileless_given (Bench recipe form) bytes r off h = h
+
+reads_nothing : (task : Task) (s : SourceState) → IsFileless task → Reads task s s
+reads_nothing (File command) s off = absurd off
+reads_nothing (Gen recipe) s off = refl
+reads_nothing (Bench recipe form) s off = refl
+
+-- what is answered without a file, whatever bytes there are
+pub fileless_decided : (words : List (List ℕ)) (s : SourceState) (task : Task) (result : Result (List ℕ) Stop) → IsTask words task → IsFileless task
+    → ((bytes : List ℕ) → Gives (AnswersTask task bytes) result) → Decides words s s result
+fileless_decided words s task (Ok out) asked off g =
+    let b = some_bytes s.left in
+    record { bytes = b.0; told = b.1; answer = goes_on task asked (g b.0); task = task; asked = asked; read = reads_nothing task s off }
+fileless_decided words s task (Err (Refused r)) asked off g = absurd (fileless_given task [] r off (g []))
+fileless_decided words s task (Err ReadFault) asked off g = absurd (g [])
+fileless_decided words s task (Err WriteFault) asked off g = absurd (g [])
+fileless_decided words s task (Err NoMemory) asked off g = tt
+
+-- where the words ask for a command on a file, they ask for no generated graph
+pub no_fileless : {P : Type 0} → HasOneTask → (words : List (List ℕ)) (command : Command) → IsTask words (File command) → (task : Task) → IsTask words task → IsFileless task → P
+no_fileless one words command asked (File c) is off = absurd off
+no_fileless one words command asked (Gen r) is off = absurd (file_or_not (one words (File command) (Gen r) asked is))
+  where
+    file_or_not : File command ≡ Gen r → ⊥
+    file_or_not e = cc
+no_fileless one words command asked (Bench r form) is off = absurd (file_or_not (one words (File command) (Bench r form) asked is))
+  where
+    file_or_not : File command ≡ Bench r form → ⊥
+    file_or_not e = cc
 
 -- ---- the end of a run that isn't done
 told : (words : List (List ℕ)) (s s' : SourceState) (d d' : SinkState) (r : Refusal) → IsRefused words s s' r → Tells d d' (stop_line (Refused r)) → IsTold words s s' d d' (stop_status (Refused r))

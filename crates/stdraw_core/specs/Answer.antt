@@ -1,5 +1,6 @@
 -- The program's one answer to words and the bytes of a file, found in stages.
 --   Asks, IsFew, IsTree, IsGraph, IsAccepted, Answers    the stages: each says what it finds, and when it refuses
+--   AnswersTask task bytes answer            what is answered to a task: the file is looked at only where it asks for one
 --   IsAnswer words bytes answer              an output, or the first refusal
 -- Later commands and tests come as further stages or as cases of the last one.
 use Rattle.std.specs.Prelude.{◌≡◌, ℕ, ℤ, pos, ◌<◌, ◌≤◌, List, [], ◌++◌, codes, length, Some, None, Result, Ok, Err}
@@ -13,8 +14,12 @@ use Rattle.st_words.specs.declared.words.Command.TheVariants.{Query, Test, Draw}
 use Rattle.st_words.specs.declared.words.DrawForm.{DrawForm}
 use Rattle.st_report.specs.declared.stop.Refusal.{Refusal}
 use Rattle.st_report.specs.declared.stop.Refusal.TheVariants.{Words, TooManyBytes, Gml, Shape, UnknownVertex}
+use Rattle.st_words.specs.declared.words.Recipe.{Recipe}
+use Rattle.st_words.specs.declared.words.Task.{Task}
+use Rattle.st_words.specs.declared.words.Task.TheVariants.{File, Gen, Bench}
+use Rattle.stdraw_core.specs.Generated.{AnswersGen, AnswersBench}
 use Rattle.stdraw_core.specs.Stages.{Then, IsOne}
-use Rattle.st_words.specs.Words.{IsCommand}
+use Rattle.st_words.specs.Words.{IsTask}
 use Rattle.st_map.specs.Embedded.{edges, faces}
 use Rattle.st_shape.specs.declared.point.Point.{Point}
 use Rattle.st_test.specs.Planar.{StValue}
@@ -34,10 +39,10 @@ vertex_limit = 20000
 abbrev pub edge_limit : ℕ
 edge_limit = 60000
 
--- the command that the words ask for; words that are no form of a command are refused
-abbrev pub Asks : List (List ℕ) → Result Command Refusal → Type 0
-Asks words (Ok command) = IsCommand words command
-Asks words (Err Words) = (command : Command) → IsCommand words command → ⊥
+-- the task that the words ask for; words that are no form of a command are refused
+abbrev pub Asks : List (List ℕ) → Result Task Refusal → Type 0
+Asks words (Ok task) = IsTask words task
+Asks words (Err Words) = (task : Task) → IsTask words task → ⊥
 Asks words (Err _) = ⊥
 
 -- more bytes than the limit are refused
@@ -100,9 +105,15 @@ AnswersGraph command g = Then (IsAccepted g) (Answers command g)
 abbrev pub AnswersFile : Command → List ℕ → Result (List ℕ) Refusal → Type 0
 AnswersFile command bytes = Then (IsFew bytes) (λ _. Then (IsTree bytes) (λ tree. Then (IsGraph tree) (AnswersGraph command)))
 
+-- what is answered to a task; what is said of a generated graph doesn't depend on the bytes
+abbrev pub AnswersTask : Task → List ℕ → Result (List ℕ) Refusal → Type 0
+AnswersTask (File command) bytes answer = AnswersFile command bytes answer
+AnswersTask (Gen r) bytes answer = AnswersGen r answer
+AnswersTask (Bench r form) bytes answer = AnswersBench r form answer
+
 -- the one answer to words and bytes: an output, or the first refusal
 abbrev pub IsAnswer : List (List ℕ) → List ℕ → Result (List ℕ) Refusal → Type 0
-IsAnswer words bytes = Then (Asks words) (λ command. AnswersFile command bytes)
+IsAnswer words bytes = Then (Asks words) (λ task. AnswersTask task bytes)
 
 -- two answers to the same words and bytes are one and the same
 abbrev pub HaveOneAnswer : Type 0

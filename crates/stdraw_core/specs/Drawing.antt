@@ -9,7 +9,8 @@
 --   IsReducedPicture st x N d  the dominance picture, by the reduced graph
 --   IsAlignedPicture g x N d   the picture with the edges of each path in one column
 --   IsPictureOf form g st x N d   d is the picture of the form
---   Draws form g st out        out is the EPS text of that picture, which keeps the rules of pictures
+--   Depicts form g st d        d is that picture, by the sides of st and in the names of the file; it keeps the rules of pictures
+--   Draws form g st out        out is the EPS text of that picture
 --   IsRightPicture form g x d  clean, rising and in order, or for a tessellation: its boxes tile the frame in order
 --   ShowsFile form g st out    out is the EPS text of a right picture, in the orders of the file
 use Rattle.std.specs.Prelude.{◌≡◌, ℕ, ◌+◌, ◌-◌, ◌/◌, ◌<◌, List, ℤ, pos, length}
@@ -96,13 +97,17 @@ IsPictureOf Constrained g st x N d = IsAlignedPicture g x N d
 IsPictureOf (Polyline spot) g st x N d = IsPlacedPolyline spot st.map.graph x N d
 IsPictureOf Dominance g st x N d = IsReducedPicture st x N d
 
--- the EPS text of that picture
-pub record Draws (form : DrawForm) (g : InputGraph) (st : StValue) (out : List ℕ) : Type 0 where
+-- the picture of the form, by the sides of the planar st-graph and in the names of the file; it keeps the rules of pictures
+pub record Depicts (form : DrawForm) (g : InputGraph) (st : StValue) (d : Drawing) : Type 0 where
   pub sides : SidesValue
   pub are : AreSidesIn st sides
+  pub is : IsPictureOf form g st sides (file_names g) d
+  pub rules : IsPicture d
+
+-- the EPS text of that picture
+pub record Draws (form : DrawForm) (g : InputGraph) (st : StValue) (out : List ℕ) : Type 0 where
   pub picture : Drawing
-  pub is : IsPictureOf form g st sides (file_names g) picture
-  pub rules : IsPicture picture
+  pub depicts : Depicts form g st picture
   pub told : out ≡ text picture
 
 -- nothing is wrong with the picture: it is clean, its lines rise, and it shows the order at each vertex; or its boxes tile the
@@ -119,5 +124,5 @@ IsRightPicture Dominance g x d = IsDrawn x d × ShowsReaching x d
 -- from one of its places.
 pub record ShowsFile (form : DrawForm) (g : InputGraph) (st : StValue) (out : List ℕ) : Type 0 where
   pub drawn : Draws form g st out
-  pub right : IsRightPicture form g drawn.sides drawn.picture
-  pub orders : (v : ℕ) → v < st.map.graph.vertices → IsRotation (order st.map.graph v) (clockwise (outs drawn.sides v) (ins drawn.sides v))
+  pub right : IsRightPicture form g drawn.depicts.sides drawn.picture
+  pub orders : (v : ℕ) → v < st.map.graph.vertices → IsRotation (order st.map.graph v) (clockwise (outs drawn.depicts.sides v) (ins drawn.depicts.sides v))

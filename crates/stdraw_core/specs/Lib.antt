@@ -3,8 +3,10 @@ pub mod Paths
 pub mod Drawing
 pub mod Query
 pub mod Verdict
+pub mod Generated
 pub mod Answer
 pub mod Outputs
 pub mod Stops
 pub mod Run
 pub mod Headline
+pub mod Complete

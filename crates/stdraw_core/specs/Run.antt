@@ -1,4 +1,5 @@
 -- How a run ends, for any source and sinks: by its status.
+--   Reads                  what a task with an output has read: a file to its end, or nothing
 --   IsReady, IsRefused     the answer to the bytes is an output, or a refusal, and what was read for it
 --   EndsBy                 what each status says
 -- The bytes are those that the source had left, where it tells them.
@@ -14,7 +15,9 @@ use Rattle.st_report.specs.declared.stop.Refusal.{Refusal}
 use Rattle.st_report.specs.declared.stop.Refusal.TheVariants.{Words, TooManyBytes}
 use Rattle.st_report.specs.declared.stop.Stop.{Stop}
 use Rattle.st_report.specs.declared.stop.Stop.TheVariants.{Refused, ReadFault, WriteFault, NoMemory}
-use Rattle.st_words.specs.Words.{IsCommand}
+use Rattle.st_words.specs.declared.words.Task.{Task}
+use Rattle.st_words.specs.declared.words.Task.TheVariants.{File, Gen, Bench}
+use Rattle.st_words.specs.Words.{IsCommand, IsTask}
 use Rattle.stdraw_core.specs.Answer.{IsAnswer, byte_limit}
 use Rattle.st_report.specs.Telling.{Tells}
 use Rattle.st_report.specs.Lines.{status_of, line_of, stop_line}
@@ -32,12 +35,20 @@ Leaves Words old new = Unit {0}
 Leaves TooManyBytes old new = TakesPastLimit old new
 Leaves _ old new = IsAtEnd new
 
--- the answer to the bytes is an output, and the source was read to its end
+-- what a task with an output has read: a file to its end; for a generated graph nothing
+abbrev pub Reads : Task → SourceState → SourceState → Type 0
+Reads (File command) old new = IsAtEnd new.left
+Reads (Gen r) old new = new ≡ old
+Reads (Bench r form) old new = new ≡ old
+
+-- the answer to the bytes is an output, and the source was read as the task asks
 pub record IsReady (words : List (List ℕ)) (old new : SourceState) (text : List ℕ) : Type 0 where
   pub bytes : List ℕ
   pub told : IfSome old.left (λ left. left ≡ bytes)
   pub answer : IsAnswer words bytes (Ok text)
-  pub read : IsAtEnd new.left
+  pub task : Task
+  pub asked : IsTask words task
+  pub read : Reads task old new
 
 -- the answer to the bytes is a refusal
 pub record IsRefused (words : List (List ℕ)) (old new : SourceState) (refusal : Refusal) : Type 0 where
@@ -46,7 +57,7 @@ pub record IsRefused (words : List (List ℕ)) (old new : SourceState) (refusal 
   pub answer : IsAnswer words bytes (Err refusal)
   pub leaves : Leaves refusal old.left new.left
 
--- the words are a command, and a read failed
+-- the words are a command on a file, and a read failed
 pub record IsUnread (words : List (List ℕ)) (old new : SourceState) : Type 0 where
   pub command : Command
   pub asked : IsCommand words command

@@ -9,7 +9,7 @@ ghost use Rattle.st_sides.specs.Sides.{edge_count};
 ghost use Rattle.st_sides.specs.SidesOf.{IsSidesOf};
 ghost use Rattle.st_input.specs.InputGraph.{IsConsistent};
 ghost use Rattle.stdraw_core.specs.Answer.{AnswersDraw, vertex_limit, edge_limit};
-ghost use Rattle.stdraw_core.specs.Drawing.{AnswersPlaces, AnswersRows, IsPictureOf, IsReducedPicture, IsPlacedPolyline, place_of};
+ghost use Rattle.stdraw_core.specs.Drawing.{AnswersPlaces, AnswersRows, Depicts, IsPictureOf, IsReducedPicture, IsPlacedPolyline, place_of};
 ghost use Rattle.stdraw_core.specs.Paths.{AreSidesIn};
 ghost use Rattle.stdraw_core.specs.Stops.{Gives, StopsAt};
 ghost use Rattle.stdraw_core.specs.Verdict.{IsFound};
@@ -171,10 +171,42 @@ fn picture_of<F: Fn(EdgeId) -> u32>(
     }
 }
 
-/// The picture of the form; its text is made while it is written.
+/// The picture of the form, by the sides of the planar st-graph.
 ///
 /// Errors: `Path`, for the form that looks at paths; `NoMemory`.
 /// Cost: O(V + E) time and memory, and for paths that cross a logarithm more. Not proved.
+pub fn depict(
+    alloc: Global,
+    form: DrawForm,
+    spec: &GraphSpec,
+    graph: StGraph,
+) -> Result<Picture, Stop>
+    requires tables { IsConsistent spec.now }
+    requires found { IsFound spec.now graph }
+    requires high { spec.now.graph.vertices ≤ vertex_limit }
+    requires wide { length spec.now.graph.ends ≤ edge_limit }
+    ensures ok { IfOk result (Depicts form spec.now graph) }
+    ensures err { StopsAt (AnswersDraw form spec.now graph) result }
+{
+    let sides = match Sides::of(alloc, &graph) {
+        Ok(sides) => sides,
+        Err(NoMemory) => return Err(Stop::NoMemory),
+    };
+    sides.facts();
+    let ones = Weights::new(|_e: EdgeId| 1u32, sides.edges(), 1);
+    match picture_of(alloc, form, spec, graph, &sides, &ones, spec.names()) {
+        Ok(picture) => {
+            let _ = picture.items();
+            Ok(picture)
+        }
+        Err(stop) => Err(stop),
+    }
+}
+
+/// The picture of the form; its text is made while it is written.
+///
+/// Errors: `NoMemory`.
+/// Cost: that of `depict`.
 pub fn answer_draw(
     alloc: Global,
     form: DrawForm,
@@ -187,17 +219,8 @@ pub fn answer_draw(
     requires wide { length spec.now.graph.ends ≤ edge_limit }
     ensures { Gives (AnswersDraw form spec.now graph) result }
 {
-    let sides = match Sides::of(alloc, &graph) {
-        Ok(sides) => sides,
-        Err(NoMemory) => return Err(Stop::NoMemory),
-    };
-    sides.facts();
-    let ones = Weights::new(|_e: EdgeId| 1u32, sides.edges(), 1);
-    match picture_of(alloc, form, spec, graph, &sides, &ones, spec.names()) {
-        Ok(picture) => {
-            let _ = picture.items();
-            Ok(Output::picture(picture))
-        }
+    match depict(alloc, form, spec, graph) {
+        Ok(picture) => Ok(Output::picture(picture)),
         Err(stop) => Err(stop),
     }
 }

@@ -4,8 +4,10 @@
 //! ending, what `run` does with it over any source and sinks.
 #![tactic(auto)]
 
+mod bench;
 mod drawing;
 mod file;
+mod generated;
 pub mod laws;
 mod number;
 mod output;
@@ -19,5 +21,7 @@ pub use st_report::{BadPath, NameList, NotSt, Refusal, Status, Stop};
 pub use st_words::{Command, DrawForm, Pairs, Spot};
 pub use top::run;
 
+#[cfg(test)]
+mod generated_tests;
 #[cfg(test)]
 mod tests;

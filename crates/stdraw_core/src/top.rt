@@ -1,5 +1,5 @@
 //! All that the program does.
-ghost use Rattle.std.specs.Prelude.{◌≡◌, ◌≢◌, ◌≤◌, ◌<◌, length, map, IfOk, IsErrOf};
+ghost use Rattle.std.specs.Prelude.{◌≡◌, ◌≢◌, ◌≤◌, ◌<◌, ℕ, List, length, map, IfOk, IsErrOf};
 ghost use Rattle.std.specs.String.{string_bytes};
 ghost use Rattle.st_port.specs.Faults.{GoesOn};
 ghost use Rattle.st_input.specs.InputGraph.{IsConsistent};
@@ -7,10 +7,13 @@ ghost use Rattle.stdraw_core.specs.Answer.{Answers, AnswersGraph, AnswersFile, b
 ghost use Rattle.stdraw_core.specs.Run.{Decides, EndsBy};
 ghost use Rattle.stdraw_core.specs.Stops.{Gives};
 ghost use Rattle.stdraw_core.specs.Verdict.{IsFound};
+ghost use Rattle.stdraw_core.specs.Complete.{Complete};
 ghost use Rattle.stdraw_core.specs.Headline.{Headline, QueryHeadline};
+ghost use Rattle.st_words.specs.Words.{IsTask, IsFileless};
 
 use crate::drawing::answer_draw;
 use crate::file::{graph_of, tree_of};
+use crate::generated::{answer_bench, answer_gen};
 use crate::output::Output;
 use crate::query::answer_query;
 use crate::tested::answer_test;
@@ -21,7 +24,8 @@ use st_port::{Failed, ReadEnd, Sink, Source, read_all};
 use st_report::{Refusal, Status, Stop, report};
 use st_test::StGraph;
 use st_test::laws::one_poles_answer;
-use st_words::{Command, command_of};
+use st_words::laws::one_task;
+use st_words::{Command, Task, task_of};
 use std::alloc::Global;
 
 const MOST_BYTES: usize = 16_777_216;
@@ -86,24 +90,39 @@ fn answer_file(alloc: Global, command: &Command, bytes: &[u8]) -> Result<Output,
     answer_graph(alloc, command, &graph)
 }
 
-// What is answered to the words and to what the source has left.
-fn decide<S: Source>(alloc: Global, words: &[String], src: &mut S) -> Result<Output, Stop>
-    ensures decides { Decides (map string_bytes words.now) (S.state src.old) (S.state src.new) result }
-    ensures words { IsErrOf result (Stop.Refused Refusal.Words) → src.new ≡ src.old }
+// What the command answers to what the source has left.
+fn answer_source<S: Source>(alloc: Global, command: &Command, src: &mut S) -> Result<Output, Stop>
+    ensures decides { (words : List (List ℕ)) → IsTask words (Task.File command.now) → Decides words (S.state src.old) (S.state src.new) result }
+    ensures never_words { IsErrOf result (Stop.Refused Refusal.Words) → ⊥ }
     ensures count { GoesOn (S.state src.old).faults (S.state src.new).faults }
 {
-    let command = match command_of(alloc, words) {
-        Ok(Some(command)) => command,
-        Ok(None) => return Err(Stop::Refused(Refusal::Words)),
-        Err(NoMemory) => return Err(Stop::NoMemory),
-    };
     let text = match read_all(alloc, src, MOST_BYTES) {
         Ok(text) => text,
         Err(ReadEnd::Failed) => return Err(Stop::ReadFault),
         Err(ReadEnd::TooLong) => return Err(Stop::Refused(Refusal::TooManyBytes)),
         Err(ReadEnd::NoMemory) => return Err(Stop::NoMemory),
     };
-    answer_file(alloc, &command, text.bytes())
+    answer_file(alloc, command, text.bytes())
+}
+
+// What is answered to the words and to what the source has left.
+fn decide<S: Source>(alloc: Global, words: &[String], src: &mut S) -> Result<Output, Stop>
+    ensures decides { Decides (map string_bytes words.now) (S.state src.old) (S.state src.new) result }
+    ensures words { IsErrOf result (Stop.Refused Refusal.Words) → src.new ≡ src.old }
+    ensures generated { (task : Task) → IsTask (map string_bytes words.now) task → IsFileless task → src.new ≡ src.old }
+    ensures count { GoesOn (S.state src.old).faults (S.state src.new).faults }
+{
+    one_task();
+    let task = match task_of(alloc, words) {
+        Ok(Some(task)) => task,
+        Ok(None) => return Err(Stop::Refused(Refusal::Words)),
+        Err(NoMemory) => return Err(Stop::NoMemory),
+    };
+    match &task {
+        Task::File(command) => answer_source(alloc, command, src),
+        Task::Gen(recipe) => as_output(answer_gen(alloc, *recipe)),
+        Task::Bench(recipe, form) => as_output(answer_bench(alloc, *recipe, *form)),
+    }
 }
 
 // Answers, writes and reports.
@@ -118,6 +137,7 @@ fn perform<S: Source, K: Sink, D: Sink>(
 
     // What is left as it was.
     ensures words { result ≡ Status.Words → src.new ≡ src.old }
+    ensures generated { (task : Task) → IsTask (map string_bytes words.now) task → IsFileless task → src.new ≡ src.old }
     ensures untouched { result ≢ Status.Done → result ≢ Status.WriteFault → out.new ≡ out.old }
     ensures quiet { result ≡ Status.Done → diag.new ≡ diag.old }
 
@@ -135,7 +155,7 @@ fn perform<S: Source, K: Sink, D: Sink>(
     }
 }
 
-/// Reads what the words ask for, and writes the answer to `out`, or why there is none to `diag`.
+/// Reads what the words ask for, if it is a file, and writes the answer to `out`, or why there is none to `diag`.
 ///
 /// Everything is computed before the first byte is written; the writing takes no memory. The output is flushed with
 /// `Done`, the diagnostic line with every other status. A fault of `diag` changes nothing.
@@ -156,8 +176,12 @@ pub fn run<S: Source, K: Sink, D: Sink>(
     ensures headline { Headline (map string_bytes words.now) (S.state src.old) (S.state src.new) (K.state out.old) (K.state out.new) result }
     ensures query { QueryHeadline (map string_bytes words.now) (S.state src.old) (S.state src.new) (K.state out.old) (K.state out.new) result }
 
+    // When it must succeed.
+    ensures complete { Complete (map string_bytes words.now) (S.state src.old) (S.state src.new) (K.state out.old) (K.state out.new) result }
+
     // What is left as it was.
     ensures words { result ≡ Status.Words → src.new ≡ src.old }
+    ensures generated { (task : Task) → IsTask (map string_bytes words.now) task → IsFileless task → src.new ≡ src.old }
     ensures untouched { result ≢ Status.Done → result ≢ Status.WriteFault → out.new ≡ out.old }
     ensures quiet { result ≡ Status.Done → diag.new ≡ diag.old }
 

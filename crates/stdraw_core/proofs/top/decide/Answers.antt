@@ -1,11 +1,18 @@
-use Rattle.stdraw_core.proofs.RunLemmas.{words_refused, length_refused, file_decided}
+use Rattle.std.proofs.Common.{map}
+use Rattle.std.specs.String.{string_bytes}
+use Rattle.st_words.specs.declared.words.Task.TheVariants.{Gen, Bench}
+use Rattle.stdraw_core.proofs.RunLemmas.{words_refused, fileless_decided}
 use Rattle.stdraw_core.proofs.top.decide.Goals as goal
 
 pub returns-in-Ok-None-clause-decides : goal.returns-in-Ok-None-clause-decides
 returns-in-Ok-None-clause-decides g c = words_refused _ _ _ (rw c.in-Ok-None.field-0-is at c.in-Ok-None.ensures)
 
-pub returns-in-Err-TooLong-clause-decides : goal.returns-in-Err-TooLong-clause-decides
-returns-in-Err-TooLong-clause-decides g c = length_refused _ _ _ c.in-Ok-Some.command (rw c.in-Ok-Some.field-0-is at c.in-Ok-Some.ensures) (rw c.in-Err-TooLong.field-0-is at c.in-Err-TooLong.ensures.bytes)
+pub returns-in-Gen-clause-decides : goal.returns-in-Gen-clause-decides
+returns-in-Gen-clause-decides g c =
+    let asked = rw c.in-Gen.is at (rw c.in-Ok-Some.field-0-is at c.in-Ok-Some.ensures) in
+    fileless_decided (map string_bytes c.args.words.now) _ (Gen c.in-Gen.recipe) c.as_output.result asked tt (λ bytes. rw c.as_output.ensures c.answer_gen.ensures)
 
 pub returns-clause-decides : goal.returns-clause-decides
-returns-clause-decides g c = file_decided _ _ _ c.in-Ok-Some.command c.bytes.result.now c.answer_file.result (rw c.in-Ok-Some.field-0-is at c.in-Ok-Some.ensures) (rw c.bytes.ensures c.in-Ok.ensures.bytes) c.in-Ok.ensures.end c.answer_file.ensures
+returns-clause-decides g c =
+    let asked = rw c.in-Bench.is at (rw c.in-Ok-Some.field-0-is at c.in-Ok-Some.ensures) in
+    fileless_decided (map string_bytes c.args.words.now) _ (Bench c.in-Bench.recipe c.in-Bench.form) c.as_output-in-Bench.result asked tt (λ bytes. rw c.as_output-in-Bench.ensures c.answer_bench.ensures)
