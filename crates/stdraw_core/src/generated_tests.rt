@@ -9,9 +9,10 @@ use std::alloc::Global;
 use std::process::Abort;
 use std::test::Fail;
 
-const FORMS: [&str; 6] = [
+const FORMS: [&str; 7] = [
     "draw visibility",
     "draw tessellation",
+    "draw constrained",
     "draw polyline left",
     "draw polyline middle",
     "draw polyline right",
