@@ -30,6 +30,6 @@ awk 'BEGIN {
 printf '"\n]\n' >>"$work/text.gml"
 for name in ordinary dense text; do
     answer=$("$program" query 1 2 <"$work/$name.gml")
-    [ "$answer" = "1 2 yes" ] || { echo "parse: $name is answered by $answer" >&2; exit 1; }
+    [ "$answer" = "1 2 yes 0 0 1 1" ] || { echo "parse: $name is answered by $answer" >&2; exit 1; }
     sh "$here/report.sh" "$name" "$work/$name.gml" "$program" query 1 2
 done

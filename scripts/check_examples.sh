@@ -28,6 +28,7 @@ status_of() {
         "words: "*) echo 2 ;;
         "gml: "*) echo 3 ;;
         "limit: "*) echo 4 ;;
+        "path: "*) echo 8 ;;
         "unknown vertex: "*) echo 9 ;;
         *) echo none ;;
     esac

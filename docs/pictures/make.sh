@@ -15,7 +15,7 @@ work=$(mktemp -d) || exit 1
 trap 'rm -rf "$work"' EXIT
 
 for pair in divisors.visibility plan.visibility circuit.visibility review.visibility divisors.tessellation plan.tessellation \
-    circuit.tessellation divisors.polyline_left divisors.polyline_middle divisors.polyline_right divisors.dominance; do
+    circuit.tessellation critical_path.constrained divisors.polyline_left divisors.polyline_middle divisors.polyline_right divisors.dominance; do
     name=${pair%%.*}
     form=${pair#*.}
     # A form may be two words.

@@ -1,0 +1,18 @@
+# A plan with its critical path: the longest chain of work from start to end, to be drawn as one upright line.
+graph [
+node [ id 1 label "go" ] node [ id 2 label "plan" ]
+node [ id 3 label "site" ] node [ id 4 label "base" ]
+node [ id 5 label "roof" ] node [ id 6 label "panes" ]
+node [ id 7 label "light" ] node [ id 8 label "in" ]
+edge [ source 1 target 2 label "draw" ]
+edge [ source 1 target 3 label "clear" ]
+edge [ source 2 target 6 label "order windows" ]
+edge [ source 2 target 4 label "mark out" ]
+edge [ source 3 target 4 label "dig and pour" ]
+edge [ source 4 target 5 label "build" ]
+edge [ source 5 target 6 label "fit windows" ]
+edge [ source 5 target 7 label "wire" ]
+edge [ source 6 target 8 label "paint" ]
+edge [ source 7 target 8 label "test" ]
+path [ e 1 e 4 e 5 e 6 e 8 ]
+]
