@@ -107,7 +107,9 @@ fn draws_generated_graphs_cleanly(rt: HostRuntime) -> Result<(), Fail> {
         let _ = output_of(&rt, alloc, "test", file.bytes())?;
         for form in &FORMS {
             let text = output_of(&rt, alloc, form, file.bytes())?;
-            let picture = read_eps(alloc, text.bytes())?;
+            let bytes = text.bytes();
+            assert!(rt; bytes.len() <= 8_000_000, "{} {}", line, form);
+            let picture = read_eps(alloc, bytes)?;
             assert!(rt; clean(&picture).is_none(), "{} {}", line, form);
         }
     }
