@@ -1,5 +1,7 @@
 pub mod Ends
 pub mod EdgeNumbers
+pub mod Held
 pub mod Lists
+pub mod Pieces
 pub mod Walks
 pub mod Graph

@@ -44,6 +44,14 @@ impl Digraph {
         self.vertices += n;
     }
 
+    /// Takes room for n more edges. Errors: `NoMemory`.
+    pub fn reserve(&mut self, n: u32) -> Result<(), NoMemory>
+        ensures { self.new ≡ self.old }
+    {
+        self.ends.reserve_exact(n as usize)?;
+        Ok(())
+    }
+
     /// Adds an edge, with the next number.
     pub fn add_edge(&mut self, tail: VertexId, head: VertexId) -> Result<EdgeId, NoMemory>
         requires tail { tail.0 < self.old.vertices }

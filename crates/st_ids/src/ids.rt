@@ -1,12 +1,25 @@
 //! Numbers with a type of their own, and the trait of what may index a list.
 ghost use Rattle.std.specs.Prelude.{◌≡◌, ℕ};
 
+use std::alloc::{AllocError, AllocFailed};
 use thiserror::Error;
 
 /// Memory ran out.
 #[derive(Clone, Copy, Debug, PartialEq, Eq, Error)]
 #[error("no memory")]
 pub struct NoMemory;
+
+impl From<AllocError> for NoMemory {
+    fn from(_e: AllocError) -> NoMemory {
+        NoMemory
+    }
+}
+
+impl<T: Drop> From<AllocFailed<T>> for NoMemory {
+    fn from(_e: AllocFailed<T>) -> NoMemory {
+        NoMemory
+    }
+}
 
 /// A type that stands for the numbers of `u32`, so that a list can be indexed by it.
 pub trait Id: Copy {

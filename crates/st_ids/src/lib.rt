@@ -6,17 +6,22 @@
 #![tactic(auto)]
 
 mod digraph;
+mod edges;
 mod ends;
 mod ids;
-mod lists;
+pub mod limits;
 mod names;
+mod paths;
+mod text;
 mod vec;
 
 pub use digraph::Digraph;
+pub use edges::EdgeList;
 pub use ends::Dart;
 pub use ids::{EdgeId, FaceId, Id, NoMemory, OrbitId, VertexId};
-pub use lists::{EdgeList, PathList, Text};
 pub use names::Names;
+pub use paths::PathList;
+pub use text::Text;
 pub use vec::IdVec;
 
 #[cfg(test)]
@@ -62,11 +67,19 @@ mod tests {
     fn paths_keep_their_edges(rt: HostRuntime) -> Result<(), Fail> {
         let alloc = rt.alloc();
         let mut path = EdgeList::new(alloc);
-        path.push(EdgeId(7))?;
+        for e in 0..7 {
+            path.push(EdgeId(e))?;
+        }
         let mut paths = PathList::new(alloc);
+        paths.reserve(3, 8)?;
+        paths.push_edges([EdgeId(9)].as_slice())?;
+        paths.push_edges([].as_slice())?;
         paths.push(path)?;
-        assert_eq!(rt; paths.len(), 1);
-        assert_eq!(rt; paths.path(0), [EdgeId(7)].as_slice());
+        assert_eq!(rt; paths.len(), 3);
+        assert_eq!(rt; paths.path(0), [EdgeId(9)].as_slice());
+        assert_eq!(rt; paths.path(1).len(), 0);
+        assert_eq!(rt; paths.path(2).len(), 7);
+        assert_eq!(rt; paths.path(2).last().copied(), Some(EdgeId(6)));
         Ok(())
     }
 
@@ -74,8 +87,11 @@ mod tests {
     fn a_text_grows(rt: HostRuntime) -> Result<(), Fail> {
         let mut text = Text::new(rt.alloc());
         text.append(b"ab")?;
+        text.append_number(-5i64)?;
+        assert_eq!(rt; text.bytes(), b"ab-5".as_slice());
+        text.append(b"0123456789")?;
         text.append(b"c")?;
-        assert_eq!(rt; text.bytes(), b"abc".as_slice());
+        assert_eq!(rt; text.bytes(), b"ab-50123456789c".as_slice());
         Ok(())
     }
 }

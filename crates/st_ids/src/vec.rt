@@ -1,7 +1,7 @@
 //! A list that is indexed by ids, so that a vertex can't be looked up in a list of edges.
 ghost use Rattle.std.specs.Prelude.{◌≡◌, ℕ, ◌<◌, ◌^◌, [], ◌∷◌, ◌++◌, length, replicate, slice_get, slice_index_or, slice_set, IfOk, OnOk, OnErr, Some};
 
-use crate::{Id, NoMemory};
+use crate::{EdgeId, EdgeList, Id, NoMemory};
 use std::alloc::Global;
 use std::marker::{Model, PhantomData};
 use std::mem;
@@ -43,14 +43,31 @@ impl<K: Id, T> IdVec<K, T> {
         T: Copy,
         ensures { IfOk result (λ v. v ≡ replicate n value) }
     {
-        let mut items = Vec::new(alloc);
-        match items.resize(n as usize, value) {
-            Ok(()) => Ok(IdVec {
-                items,
-                of: PhantomData,
-            }),
-            Err(_) => Err(NoMemory),
-        }
+        let mut items = Vec::with_capacity(alloc, n as usize)?;
+        items.resize(n as usize, value)?;
+        Ok(IdVec {
+            items,
+            of: PhantomData,
+        })
+    }
+
+    /// The empty list, with room for n items.
+    pub fn with_capacity(alloc: Global, n: u32) -> Result<Self, NoMemory>
+        ensures { IfOk result (λ v. v ≡ []) }
+    {
+        let items = Vec::with_capacity(alloc, n as usize)?;
+        Ok(IdVec {
+            items,
+            of: PhantomData,
+        })
+    }
+
+    /// Takes room for n more items. Errors: `NoMemory`.
+    pub fn reserve(&mut self, n: u32) -> Result<(), NoMemory>
+        ensures { self.new ≡ self.old }
+    {
+        self.items.reserve_exact(n as usize)?;
+        Ok(())
     }
 
     /// The number of items.
@@ -112,5 +129,18 @@ impl<K: Id, T> IdVec<K, T> {
         ensures { result.now ≡ self.now }
     {
         &self.items
+    }
+}
+
+impl<K: Id> IdVec<K, EdgeList> {
+    /// Appends an edge to the list at a place. Errors: `NoMemory`; the lists stay as they are.
+    #[inline(always)]
+    pub fn push_at(&mut self, k: K, e: EdgeId) -> Result<(), NoMemory>
+        requires { K.index k < length self.old }
+        ensures ok { OnOk result (self.new ≡ slice_set self.old (K.index k) (slice_index_or self.old (K.index k) [] ++ e.0 ∷ [])) }
+        ensures err { OnErr result (self.new ≡ self.old) }
+    {
+        let list = &mut self.items[k.number() as usize];
+        list.push(e)
     }
 }

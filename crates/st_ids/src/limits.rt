@@ -1,0 +1,21 @@
+//! The limits of the program, which its words, its reader, its lines and its drawings share.
+//!
+//! A limit stands here alone: code and clauses cite it, and the diagnostic lines are built from it.
+
+/// The most bytes of a file.
+pub const MOST_BYTES: usize = 16_777_216;
+
+/// The most vertices of a graph.
+pub const MOST_VERTICES: u32 = 20_000;
+
+/// The most edges of a graph.
+pub const MOST_EDGES: u32 = 60_000;
+
+/// The most pairs of a query.
+pub const MOST_PAIRS: usize = 1_000;
+
+/// How deep the lists of a file nest at most.
+pub const MOST_DEPTH: usize = 32;
+
+/// The greatest coordinate of a picture.
+pub const MOST_COORDINATE: u32 = 50_000_000;
