@@ -1,1 +1,3 @@
-pub mod PieceLemmas
+mod BufferLemmas
+mod PieceLemmas
+pub mod Public

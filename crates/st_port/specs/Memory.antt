@@ -1,5 +1,6 @@
 -- What contracts see of sources and sinks in memory.
 --   Feed, Tank      a source and a sink in memory
+--   Vessel          a sink in memory that grows
 --   portion_of      how many bytes move in a call
 --   Fails           the next call is one of those that fail
 use Rattle.std.specs.Prelude.{◌≡◌, ℕ, ◌+◌, ◌^◌, ◌<◌, List, Contains, ◌⊎◌, length, Bool, min, ◌==◌, if◌then◌else◌, Some}
@@ -26,11 +27,19 @@ pub record Tank : Type 0 where
   pub faults : ℕ
   pub is_flushed : Bool
 
+pub record Vessel : Type 0 where
+  pub taken : List ℕ
+  pub faults : ℕ
+  pub is_flushed : Bool
+
 abbrev pub feed_state : Feed → SourceState
 feed_state s = record { left = Some s.left; faults = counter s.faults }
 
 abbrev pub tank_state : Tank → SinkState
 tank_state s = record { taken = Some s.taken; number = Some (length s.taken); is_flushed = s.is_flushed; faults = counter s.faults }
+
+abbrev pub vessel_state : Vessel → SinkState
+vessel_state s = record { taken = Some s.taken; number = Some (length s.taken); is_flushed = s.is_flushed; faults = counter s.faults }
 
 -- of so many bytes, those that move in a call: all of them, or at most per_call
 abbrev pub portion_of : ℕ → ℕ → ℕ

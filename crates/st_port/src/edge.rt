@@ -77,6 +77,7 @@ impl<W: Write> Sink for StdSink<W> {
         ensures bound { IfOk result (λ n. TakesSome n piece.now) }
         ensures ok { IfOk result (λ n. Gains (writer_state (W.contents self.old.writer) self.old.flushed self.old.faults) (writer_state (W.contents self.new.writer) self.new.flushed self.new.faults) (take n piece.now)) }
         ensures err { OnErr result (Gains (writer_state (W.contents self.old.writer) self.old.flushed self.old.faults) (writer_state (W.contents self.new.writer) self.new.flushed self.new.faults) []) }
+        ensures quiet { OnOk result (self.new.faults ≡ self.old.faults) }
         ensures count { GoesOn (counter self.old.faults) (counter self.new.faults) }
         ensures cause { OnErr result (Rose (counter self.old.faults) (counter self.new.faults)) }
         ensures cleared { self.new.flushed ≡ false }

@@ -5,14 +5,20 @@
 //! known, and the count.
 #![tactic(auto)]
 
+mod buffered;
 mod edge;
+mod growing;
 mod memory;
+mod piece;
 mod port;
 mod sure;
 mod whole;
 
+pub use buffered::Buffered;
 pub use edge::{StdSink, StdSource};
+pub use growing::TextSink;
 pub use memory::{MemSink, MemSource};
+pub use piece::Piece;
 pub use port::{Failed, ReadEnd, Sink, Source};
 pub use sure::{CountSink, SureSource};
 pub use whole::{read_all, write_all};

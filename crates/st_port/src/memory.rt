@@ -101,7 +101,8 @@ impl Source for MemSource {
         ensures count { GoesOn (counter self.old.faults) (counter self.new.faults) }
         ensures cause { OnErr result (Rose (counter self.old.faults) (counter self.new.faults)) }
         ensures exact { IsErr result ↔ Fails self.old.fails self.old.calls }
-        ensures ok { OnOk result (self.new.faults ≡ self.old.faults) }
+        ensures quiet { OnOk result (self.new.faults ≡ self.old.faults) }
+        ensures fault { OnErr result (self.new ≡ record self.old { calls = min (self.old.calls + 1) (2 ^ 64 - 1); faults = min (self.old.faults + 1) (2 ^ 64 - 1) }) }
         ensures portion { IfOk result (λ n. n ≡ portion_of self.old.per_call (min (length buf.old) (length self.old.left))) }
         ensures calls { self.new.calls ≡ min (self.old.calls + 1) (2 ^ 64 - 1) }
         ensures settings { (self.new.per_call ≡ self.old.per_call) × (self.new.fails ≡ self.old.fails) }
@@ -199,7 +200,8 @@ impl Sink for MemSink {
         ensures count { GoesOn (counter self.old.faults) (counter self.new.faults) }
         ensures cause { OnErr result (Rose (counter self.old.faults) (counter self.new.faults)) }
         ensures exact { IsErr result ↔ IsRefused self.old piece.now }
-        ensures ok { OnOk result (self.new.faults ≡ self.old.faults) }
+        ensures quiet { OnOk result (self.new.faults ≡ self.old.faults) }
+        ensures fault { OnErr result (self.new ≡ record self.old { calls = min (self.old.calls + 1) (2 ^ 64 - 1); faults = min (self.old.faults + 1) (2 ^ 64 - 1); is_flushed = false }) }
         ensures portion { IfOk result (λ n. n ≡ portion_of self.old.per_call (min (length piece.now) self.old.room)) }
         ensures room { IfOk result (λ n. self.new.room + n ≡ self.old.room) }
         ensures cleared { self.new.is_flushed ≡ false }

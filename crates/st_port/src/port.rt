@@ -1,5 +1,5 @@
 //! The traits of sources and sinks, and what goes wrong with them.
-ghost use Rattle.std.specs.Prelude.{[], take, IfOk, OnOk, OnErr, IsTrue};
+ghost use Rattle.std.specs.Prelude.{◌≡◌, [], take, IfOk, OnOk, OnErr, IsTrue};
 ghost use Rattle.std.specs.Io.{ReadsAtMost};
 ghost use Rattle.std.specs.Io.KnownBytes.{ReadConsumes};
 ghost use Rattle.st_port.specs.Faults.{GoesOn, Rose};
@@ -32,15 +32,16 @@ pub trait Source {
     ghost state: { Self → SourceState };
 
     /// Takes bytes that are left into the front of the buffer, and answers how many. 0 on a buffer that isn't empty
-    /// is the end of input.
+    /// is the end of input. A read that fails takes nothing; one that doesn't fail counts no fault.
     fn read(&mut self, buf: &mut [u8]) -> Result<usize, Failed>
         ensures bound { ReadsAtMost result buf.new }
         ensures bytes { ReadConsumes (state self.old).left (state self.new).left result buf.new }
+        ensures quiet { OnOk result ((state self.new).faults ≡ (state self.old).faults) }
         ensures count { GoesOn (state self.old).faults (state self.new).faults }
         ensures cause { OnErr result (Rose (state self.old).faults (state self.new).faults) };
 }
 
-/// Where bytes go.
+/// Where bytes go. A call that doesn't fail counts no fault.
 pub trait Sink {
     /// The bytes taken and their number, where the sink tells them, whether it is flushed, and its count of faults.
     ghost state: { Self → SinkState };
@@ -51,6 +52,7 @@ pub trait Sink {
         ensures bound { IfOk result (λ n. TakesSome n piece.now) }
         ensures ok { IfOk result (λ n. Gains (state self.old) (state self.new) (take n piece.now)) }
         ensures err { OnErr result (Gains (state self.old) (state self.new) []) }
+        ensures quiet { OnOk result ((state self.new).faults ≡ (state self.old).faults) }
         ensures count { GoesOn (state self.old).faults (state self.new).faults }
         ensures cause { OnErr result (Rose (state self.old).faults (state self.new).faults) };
 
@@ -58,6 +60,7 @@ pub trait Sink {
     fn flush(&mut self) -> Result<(), Failed>
         ensures same { Gains (state self.old) (state self.new) [] }
         ensures flushed { OnOk result (IsTrue (state self.new).is_flushed) }
+        ensures quiet { OnOk result ((state self.new).faults ≡ (state self.old).faults) }
         ensures count { GoesOn (state self.old).faults (state self.new).faults }
         ensures cause { OnErr result (Rose (state self.old).faults (state self.new).faults) };
 

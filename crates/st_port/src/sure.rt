@@ -45,6 +45,7 @@ impl Source for SureSource {
     fn read(&mut self, buf: &mut [u8]) -> Result<usize, Failed>
         ensures bound { ReadsAtMost result buf.new }
         ensures bytes { ReadConsumes (Some self.old) (Some self.new) result buf.new }
+        ensures quiet { OnOk result (no_fault ≡ no_fault) }
         ensures count { GoesOn no_fault no_fault }
         ensures cause { OnErr result (Rose no_fault no_fault) }
         ensures never { IsOk result }
@@ -99,6 +100,7 @@ impl Sink for CountSink {
         ensures bound { IfOk result (λ n. TakesSome n piece.now) }
         ensures ok { IfOk result (λ n. Gains (count_state self.old) (count_state self.new) (take n piece.now)) }
         ensures err { OnErr result (Gains (count_state self.old) (count_state self.new) []) }
+        ensures quiet { OnOk result (no_fault ≡ no_fault) }
         ensures count { GoesOn no_fault no_fault }
         ensures cause { OnErr result (Rose no_fault no_fault) }
         ensures whole { IfOk result (λ n. n ≡ length piece.now) }

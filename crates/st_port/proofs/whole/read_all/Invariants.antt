@@ -1,12 +1,10 @@
 use Rattle.std.proofs.Common.{length, ◌-◌, ◌≤◌}
-use Rattle.std.specs.Io.KnownBytes.{Consumes}
-use Rattle.st_port.specs.Faults.{GoesOn}
+use Rattle.st_port.specs.Reading.{Takes}
 use Rattle.st_port.proofs.whole.read_all.Given as goal
 
-abbrev pub invariant-loop-n : goal.invariant-loop-n
-invariant-loop-n g l = (length l.text ≤ l.limit)
-    × Consumes (g.S.Source.state l.initial.src).left (g.S.Source.state l.src).left l.text
-    × GoesOn (g.S.Source.state l.initial.src).faults (g.S.Source.state l.src).faults
+abbrev pub invariant-loop-piece : goal.invariant-loop-piece
+invariant-loop-piece g l = (length l.text ≤ l.limit)
+    × Takes (g.S.Source.state l.initial.src) (g.S.Source.state l.src) l.text
 
-abbrev pub decreases-loop-n : goal.decreases-loop-n
-decreases-loop-n g l = l.limit - length l.text
+abbrev pub decreases-loop-piece : goal.decreases-loop-piece
+decreases-loop-piece g l = l.limit - length l.text

@@ -1,9 +1,7 @@
 use Rattle.std.proofs.Common.{arith, rules}
-use Rattle.st_port.proofs.PieceLemmas.{Gains-more, GainsFront-take, on_err}
+use Rattle.std.proofs.lemmas.Result.{err_from_is_err_and}
+use Rattle.st_port.proofs.PieceLemmas.{Gains-more, Writes-stopped}
 use Rattle.st_port.proofs.whole.write_all.Goals as goal
-
-pub returns-in_err-at-clause-prefix : goal.returns-in_err-at-clause-prefix
-returns-in_err-at-clause-prefix g c = on_err _ (GainsFront-take _ _ _ _ _ c.loop-at.invariant.1 c.in_err-at.ensures.err)
 
 pub loop-at-preserved : goal.loop-at-preserved
 loop-at-preserved g c = (
@@ -11,3 +9,9 @@ loop-at-preserved g c = (
   Gains-more _ _ _ _ _ _ c.loop-at.invariant.1 c.in_ok-at.ensures.ok,
   search rules,
 )
+
+pub returns-in_err-at : goal.returns-in_err-at
+returns-in_err-at g c =
+    let p = err_from_is_err_and c.from_residual.result c.from_residual.ensures.1 in
+    let e = c.in_err-at.ensures in
+    rw p.1 (record { writes = Writes-stopped _ _ _ _ _ _ c.loop-at.invariant.1 c.loop-at.invariant.2 e.err e.count e.cause })
