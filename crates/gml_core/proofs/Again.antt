@@ -24,7 +24,7 @@ prefix_kept p [] ys h = h
 prefix_kept p (x ∷ xs) ys h = ap (λ (n : ℕ). cond (p x) (1 + n) 0) (prefix_kept p xs ys h)
 
 -- nor one that ends before the end
-prefix_within : (p : ℕ → Bool) (xs ys : List ℕ) → prefix_len p xs < length xs → prefix_len p (xs ++ ys) ≡ prefix_len p xs
+pub prefix_within : (p : ℕ → Bool) (xs ys : List ℕ) → prefix_len p xs < length xs → prefix_len p (xs ++ ys) ≡ prefix_len p xs
 prefix_within p [] ys h = absurd (omega arith)
 prefix_within p (x ∷ xs) ys h = within_at (p x) (prefix_len p (xs ++ ys)) (prefix_len p xs) (length xs) h (λ lt. prefix_within p xs ys lt)
   where

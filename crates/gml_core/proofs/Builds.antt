@@ -1,11 +1,10 @@
 -- The words and the places that a builder keeps, as tokens come.
-use Rattle.std.proofs.Common.{◌≡◌, ℕ, ◌+◌, ◌-◌, ◌<◌, ◌≤◌, true, cond, ℤ, List, [], ◌∷◌, ◌++◌, length, map, reverse, Some, None, Ok, Err, refl, sym, ap, ◌∙◌, append_assoc, arith}
-use Rattle.std.specs.List.{flat_map}
+use Rattle.std.proofs.Common.{◌≡◌, ℕ, ◌<◌, ◌≤◌, Bool, true, false, cond, ℤ, List, [], ◌∷◌, ◌++◌, length, map, reverse, take, drop, Some, None, Result, Ok, Err, refl, sym, ap, subst, ◌∙◌, append_assoc, arith}
+use Rattle.std.specs.Prelude.{IsTrue, nat_le, OnOk, OnErr}
 use Rattle.std.proofs.lemmas.Option.{cond_some}
-use Rattle.std.proofs.lemmas.Bool.{lt-ltb, le-ltb}
-use Rattle.std.proofs.lemmas.List.{append-nil, flat_map_more, map_push, reverse-append, length-reverse, length-map, nil_from_length}
-use Rattle.gml_core.specs.declared.token.TokenKind.TheVariants as kinds
-use Rattle.gml_core.specs.declared.token.Token.{Token}
+use Rattle.std.proofs.lemmas.Bool.{lt-ltb, le-ltb, le-leb, leb-true}
+use Rattle.std.proofs.Math.Seq.{take-length, drop-length}
+use Rattle.std.proofs.lemmas.List.{append-nil, map_push, reverse-append, length-reverse, length-map, length-take, nil_from_length, take-append-le, drop-append-le}
 use Rattle.gml_core.specs.declared.fault.GmlFault.TheVariants.{Stray, TooDeep}
 use Rattle.gml_core.specs.declared.tree.Value.{Value}
 use Rattle.gml_core.specs.declared.tree.Pair.{Pair}
@@ -14,8 +13,9 @@ use Rattle.gml_core.specs.declared.parsing.Waiting.{Waiting}
 use Rattle.gml_core.specs.declared.parsing.Builder.{Builder}
 use Rattle.gml_core.specs.Trees.{Word, opens, closes, key, value, Atom, int, real, str, atom, fits, list, entry, spelling, entry_spelling}
 use Rattle.gml_core.specs.Views.{datum, entries, entry_view}
-use Rattle.gml_core.specs.Reading.{part, integer, word, at_value, step}
-use Rattle.gml_core.specs.Building.{frame_words, places, state_of, Takes, IsAtom}
+use Rattle.gml_core.specs.Reading.{integer, at_value, step_at}
+use Rattle.gml_core.specs.Nested.{nested}
+use Rattle.gml_core.specs.Building.{open_words, places, state_of, Takes, IsAtom}
 
 -- one pair more
 pub spelling_push : (ps : List Pair) (p : Pair) → spelling (entries (ps ++ p ∷ [])) ≡ spelling (entries ps) ++ entry_spelling (entry_view p)
@@ -29,100 +29,152 @@ places_push fs f = ap reverse (map_push (λ (g : Frame). g.from) fs f) ∙ rever
 pub length-places : (fs : List Frame) → length (places fs) ≡ length fs
 length-places fs = length-reverse (map (λ (g : Frame). g.from) fs) ∙ length-map fs (λ (g : Frame). g.from)
 
-pub frames_push : (fs : List Frame) (f : Frame) → flat_map frame_words (fs ++ f ∷ []) ≡ flat_map frame_words fs ++ frame_words f
-frames_push fs f = sym (flat_map_more frame_words [] fs f)
+-- one more that is open, first
+open_more : (fs : List Frame) (f : Frame) (ps : List Pair) → open_words (reverse (fs ++ f ∷ [])) ps ≡ open_words (f ∷ reverse fs) ps
+open_more fs f ps = ap (λ (l : List Frame). open_words l ps) (reverse-append fs (f ∷ []))
+
+-- where lists are nested, the innermost begins within the pairs
+pub nested_within : (fs : List Frame) (f : Frame) (n : ℕ) → IsTrue (nested (f ∷ fs) n) → (f.start ≤ n) × IsTrue (nested fs f.start)
+nested_within fs f n h = by (nat_le f.start n) refl h
+  where
+    by : (t : Bool) → nat_le f.start n ≡ t → IsTrue (cond t (nested fs f.start) false) → (f.start ≤ n) × IsTrue (nested fs f.start)
+    by true e h = (leb-true f.start n e, h)
+    by false e h = absurd cc
+
+pub nested_more : (fs : List Frame) (n m : ℕ) → n ≤ m → IsTrue (nested fs n) → IsTrue (nested fs m)
+nested_more [] n m le h = refl
+nested_more (f ∷ fs) n m le h =
+    let w = nested_within fs f n h in
+    let test : nat_le f.start m ≡ true = le-leb f.start m (omega (arith, w.0)) in
+    rw test w.1
+
+-- of a stack, where the innermost list stands last
+pub nested_last : (fs : List Frame) (f : Frame) (n : ℕ) → IsTrue (nested (reverse (fs ++ f ∷ [])) n) → (f.start ≤ n) × IsTrue (nested (reverse fs) f.start)
+nested_last fs f n h = nested_within (reverse fs) f n (subst (λ (l : List Frame). IsTrue (nested l n)) (reverse-append fs (f ∷ [])) h)
+
+-- the innermost list is taken off a stack
+pub first_within : (ss fs : List Frame) (f : Frame) (n : ℕ) → ss ≡ fs ++ f ∷ [] → IsTrue (nested (reverse ss) n) → f.start ≤ n
+first_within ss fs f n e h = (nested_last fs f n (subst (λ (l : List Frame). IsTrue (nested (reverse l) n)) e h)).0
+
+pub nested_popped : (ss fs : List Frame) (f : Frame) (n m : ℕ) → ss ≡ fs ++ f ∷ [] → IsTrue (nested (reverse ss) n) → f.start ≤ m → IsTrue (nested (reverse fs) m)
+nested_popped ss fs f n m e h le = nested_more (reverse fs) f.start m le (nested_last fs f n (subst (λ (l : List Frame). IsTrue (nested (reverse l) n)) e h)).1
+
+-- where a list is cut at n, or stays as it was, n elements are left
+pub split_within : {A E V : Type 0} (r : Result A E) (v w : V) (len : V → ℕ) (n : ℕ) → OnOk r (len v ≡ n) → OnErr r (v ≡ w) → n ≤ len w → n ≤ len v
+split_within (Ok x) v w len n ok err le = omega (arith, ok)
+split_within (Err e) v w len n ok err le = let same : len v ≡ len w = ap len err in omega (arith, same, le)
+
+-- one pair more, in the innermost list
+open_push : (fs : List Frame) (ps : List Pair) (p : Pair) → IsTrue (nested fs (length ps)) → open_words fs (ps ++ p ∷ []) ≡ open_words fs ps ++ entry_spelling (entry_view p)
+open_push [] ps p h = spelling_push ps p
+open_push (f ∷ fs) ps p h =
+    let le : f.start ≤ length ps = (nested_within fs f (length ps) h).0 in
+    let front : take f.start (ps ++ p ∷ []) ≡ take f.start ps = take-append-le f.start ps (p ∷ []) le in
+    let back : drop f.start (ps ++ p ∷ []) ≡ drop f.start ps ++ p ∷ [] = drop-append-le f.start ps (p ∷ []) le in
+    rw (front, back, spelling_push (drop f.start ps) p) (simp append_assoc)
+
+length_of_take : (n : ℕ) (ps : List Pair) → n ≤ length ps → length (take n ps) ≡ n
+length_of_take n ps le = omega (arith, length-take n ps)
 
 -- the innermost list ends
-pub close_words : (fs : List Frame) (f : Frame) (inner : List Pair) (p : Pair) → entry_view p ≡ entry f.key f.at (list (entries inner))
-    → (flat_map frame_words fs ++ spelling (entries (f.pairs ++ p ∷ []))) ++ [] ≡ ((flat_map frame_words (fs ++ f ∷ []) ++ spelling (entries inner)) ++ []) ++ closes ∷ []
-close_words fs f inner p e =
-    rw (spelling_push f.pairs p, e, frames_push fs f) (simp (append_assoc, append-nil))
+close_words : (fs : List Frame) (f : Frame) (ps qs inner : List Pair) (p : Pair) → IsTrue (nested (reverse (fs ++ f ∷ [])) (length ps)) → inner ≡ drop f.start ps → qs ≡ take f.start ps ++ p ∷ [] → entry_view p ≡ entry f.key f.at (list (entries inner))
+    → open_words (reverse fs) qs ++ [] ≡ (open_words (reverse (fs ++ f ∷ [])) ps ++ []) ++ closes ∷ []
+close_words fs f ps qs inner p nests inner-is qs-is e =
+    let w = nested_last fs f (length ps) nests in
+    let size : length (take f.start ps) ≡ f.start = length_of_take f.start ps w.0 in
+    let within : IsTrue (nested (reverse fs) (length (take f.start ps))) = rw size w.1 in
+    rw (qs-is, open_push (reverse fs) (take f.start ps) p within, e, inner-is, open_more fs f ps) (simp (append_assoc, append-nil))
 
 -- a list begins
-pub begin_words : (fs : List Frame) (f : Frame) → (flat_map frame_words (fs ++ f ∷ []) ++ []) ++ [] ≡ ((flat_map frame_words fs ++ spelling (entries f.pairs)) ++ key f.key f.at ∷ []) ++ opens ∷ []
-begin_words fs f = rw (frames_push fs f) (simp (append_assoc, append-nil))
+begin_words : (fs : List Frame) (f : Frame) (ps : List Pair) → f.start ≡ length ps → open_words (reverse (fs ++ f ∷ [])) ps ++ [] ≡ (open_words (reverse fs) ps ++ key f.key f.at ∷ []) ++ opens ∷ []
+begin_words fs f ps start =
+    let front : take f.start ps ≡ ps = ap (λ (n : ℕ). take n ps) start ∙ take-length ps in
+    let back : drop f.start ps ≡ [] = ap (λ (n : ℕ). drop n ps) start ∙ drop-length ps in
+    rw (open_more fs f ps, front, back) (simp (append_assoc, append-nil))
 
 -- a pair ends with a value that is no list
-pub put_words : (front : List Word) (ps : List Pair) (p : Pair) (k : List ℕ) (at : ℕ) (a : Atom) → entry_view p ≡ entry k at (atom a)
-    → (front ++ spelling (entries (ps ++ p ∷ []))) ++ [] ≡ ((front ++ spelling (entries ps)) ++ key k at ∷ []) ++ value a ∷ []
-put_words front ps p k at a e = rw (spelling_push ps p, e) (simp (append_assoc, append-nil))
+put_words : (fs : List Frame) (ps : List Pair) (p : Pair) (k : List ℕ) (at : ℕ) (a : Atom) → IsTrue (nested fs (length ps)) → entry_view p ≡ entry k at (atom a)
+    → open_words fs (ps ++ p ∷ []) ++ [] ≡ (open_words fs ps ++ key k at ∷ []) ++ value a ∷ []
+put_words fs ps p k at a nests e = rw (open_push fs ps p nests, e) (simp (append_assoc, append-nil))
 
 -- ---- steps
 
-pub step_close : (bytes : List ℕ) (l : ℕ) (ls : List ℕ) (t : Token) → t.kind ≡ kinds.CloseList → step bytes (record { waits = None; lists = l ∷ ls }) t ≡ Ok (record { waits = None; lists = ls })
-unfolding step
-step_close bytes l ls t e = rw e refl
+pub step_close : (at l : ℕ) (ls : List ℕ) (w : Word) → w ≡ closes → step_at (record { waits = None; lists = l ∷ ls }) at w ≡ Ok (record { waits = None; lists = ls })
+unfolding step_at
+step_close at l ls w e = rw e refl
 
-pub step_stray : (bytes : List ℕ) (t : Token) → t.kind ≡ kinds.CloseList → step bytes (record { waits = None; lists = [] }) t ≡ Err (Stray t.from)
-unfolding step
-step_stray bytes t e = rw e refl
+pub step_stray : (at : ℕ) (w : Word) → w ≡ closes → step_at (record { waits = None; lists = [] }) at w ≡ Err (Stray at)
+unfolding step_at
+step_stray at w e = rw e refl
 
-pub step_key : (bytes ls : List ℕ) (t : Token) → t.kind ≡ kinds.Key → step bytes (record { waits = None; lists = ls }) t ≡ Ok (record { waits = Some t.from; lists = ls })
-unfolding step
-step_key bytes ls t e = rw e refl
+pub step_key : (at : ℕ) (ls text : List ℕ) (w : Word) → w ≡ key text at → step_at (record { waits = None; lists = ls }) at w ≡ Ok (record { waits = Some at; lists = ls })
+unfolding step_at
+step_key at ls text w e = rw e refl
 
-pub step_begin : (bytes ls : List ℕ) (k : ℕ) (t : Token) → t.kind ≡ kinds.OpenList → length ls < 32 → step bytes (record { waits = Some k; lists = ls }) t ≡ Ok (record { waits = None; lists = t.from ∷ ls })
-unfolding step
-step_begin bytes ls k t e lt = rw (e, lt-ltb _ _ lt) refl
+pub step_begin : (at : ℕ) (ls : List ℕ) (k : ℕ) (w : Word) → w ≡ opens → length ls < 32 → step_at (record { waits = Some k; lists = ls }) at w ≡ Ok (record { waits = None; lists = at ∷ ls })
+unfolding step_at
+step_begin at ls k w e lt = rw (e, lt-ltb _ _ lt) refl
 
-pub step_deep : (bytes ls : List ℕ) (k : ℕ) (t : Token) → t.kind ≡ kinds.OpenList → 32 ≤ length ls → step bytes (record { waits = Some k; lists = ls }) t ≡ Err (TooDeep t.from)
-unfolding step
-step_deep bytes ls k t e le = rw (e, le-ltb _ _ le) refl
+pub step_deep : (at : ℕ) (ls : List ℕ) (k : ℕ) (w : Word) → w ≡ opens → 32 ≤ length ls → step_at (record { waits = Some k; lists = ls }) at w ≡ Err (TooDeep at)
+unfolding step_at
+step_deep at ls k w e le = rw (e, le-ltb _ _ le) refl
 
-pub step_value : (bytes ls : List ℕ) (k : ℕ) (t : Token) (a : Atom) → word bytes t ≡ value a → fits a ≡ true → step bytes (record { waits = Some k; lists = ls }) t ≡ Ok (record { waits = None; lists = ls })
-unfolding step
-step_value bytes ls k t a e fit = ap (at_value k ls t.from) e ∙ rw fit refl
+pub step_value : (at : ℕ) (ls : List ℕ) (k : ℕ) (w : Word) (a : Atom) → w ≡ value a → fits a ≡ true → step_at (record { waits = Some k; lists = ls }) at w ≡ Ok (record { waits = None; lists = ls })
+unfolding step_at
+step_value at ls k w a e fit = ap (at_value k ls at) e ∙ rw fit refl
 
 -- ---- what each part of the builder does
 
-pub close_takes : (bytes : List ℕ) (old new : Builder) (t : Token) (f : Frame) (inner : List Pair) (p : Pair) → t.kind ≡ kinds.CloseList → old.waits ≡ None → new.waits ≡ None
-    → old.stack.items ≡ new.stack.items ++ f ∷ [] → new.pairs ≡ f.pairs ++ p ∷ [] → old.pairs ≡ inner → entry_view p ≡ entry f.key f.at (list (entries inner)) → Takes bytes old t new
-close_takes bytes old new t f inner p kind none none' stack pairs inner-is view = record {
-  words = rw (none, none', stack, pairs, inner-is, kind) (close_words new.stack.items f inner p view);
-  state = rw (none, none', stack, places_push new.stack.items f) (step_close bytes f.from (places new.stack.items) t kind);
+pub close_takes : (at : ℕ) (word : Word) (old new : Builder) (f : Frame) (inner : List Pair) (p : Pair) → word ≡ closes → old.waits ≡ None → new.waits ≡ None
+    → old.stack.items ≡ new.stack.items ++ f ∷ [] → inner ≡ drop f.start old.pairs.items → new.pairs.items ≡ take f.start old.pairs.items ++ p ∷ [] → entry_view p ≡ entry f.key f.at (list (entries inner)) → Takes at word old new
+close_takes at word old new f inner p said none none' stack inner-is pairs view =
+    let nests : IsTrue (nested (reverse (new.stack.items ++ f ∷ [])) (length old.pairs.items)) = subst (λ (l : List Frame). IsTrue (nested (reverse l) (length old.pairs.items))) stack old.nested in
+    record {
+      words = rw (none, none', stack, said) (close_words new.stack.items f old.pairs.items new.pairs.items inner p nests inner-is pairs view);
+      state = rw (none, none', stack, places_push new.stack.items f) (step_close at f.from (places new.stack.items) word said);
+    }
+
+pub wait_takes : (at : ℕ) (word : Word) (old new : Builder) (text : List ℕ) (w : Waiting) → word ≡ key text at → old.waits ≡ None → new.waits ≡ Some w → w.key ≡ text → w.at ≡ at
+    → new.stack.items ≡ old.stack.items → new.pairs.items ≡ old.pairs.items → Takes at word old new
+wait_takes at word old new text w said none some key-is at-is stack pairs = record {
+  words = rw (none, some, stack, pairs, key-is, at-is, said) (simp append-nil);
+  state = rw (none, some, stack, at-is) (step_key at (places old.stack.items) text word said);
 }
 
-pub wait_takes : (bytes : List ℕ) (old new : Builder) (t : Token) (w : Waiting) → t.kind ≡ kinds.Key → old.waits ≡ None → new.waits ≡ Some w → w.key ≡ part bytes t.from t.to → w.at ≡ t.from
-    → new.stack.items ≡ old.stack.items → new.pairs ≡ old.pairs → Takes bytes old t new
-wait_takes bytes old new t w kind none some key-is at-is stack pairs = record {
-  words = rw (none, some, stack, pairs, key-is, at-is, kind) (simp append-nil);
-  state = rw (none, some, stack, at-is) (step_key bytes (places old.stack.items) t kind);
+pub begin_takes : (at : ℕ) (word : Word) (old new : Builder) (w : Waiting) (f : Frame) → word ≡ opens → length old.stack.items < 32 → old.waits ≡ Some w → new.waits ≡ None
+    → new.stack.items ≡ old.stack.items ++ f ∷ [] → new.pairs.items ≡ old.pairs.items → f.start ≡ length old.pairs.items → f.key ≡ w.key → f.at ≡ w.at → f.from ≡ at → Takes at word old new
+begin_takes at word old new w f said lt some none stack pairs start key-is at-is from-is = record {
+  words = rw (some, none, stack, pairs, ← key-is, ← at-is, said) (begin_words old.stack.items f old.pairs.items start);
+  state = rw (some, none, stack, places_push old.stack.items f, from-is) (step_begin at (places old.stack.items) w.at word said (omega (arith, length-places old.stack.items)));
 }
 
-pub begin_takes : (bytes : List ℕ) (old new : Builder) (t : Token) (w : Waiting) (f : Frame) → t.kind ≡ kinds.OpenList → length old.stack.items < 32 → old.waits ≡ Some w → new.waits ≡ None
-    → new.stack.items ≡ old.stack.items ++ f ∷ [] → new.pairs ≡ [] → f.pairs ≡ old.pairs → f.key ≡ w.key → f.at ≡ w.at → f.from ≡ t.from → Takes bytes old t new
-begin_takes bytes old new t w f kind lt some none stack pairs inner key-is at-is from-is = record {
-  words = rw (some, none, stack, pairs, ← inner, ← key-is, ← at-is, kind) (begin_words old.stack.items f);
-  state = rw (some, none, stack, places_push old.stack.items f, from-is) (step_begin bytes (places old.stack.items) w.at t kind (omega (arith, length-places old.stack.items)));
+pub put_takes : (at : ℕ) (word : Word) (old new : Builder) (w : Waiting) (v : Value) (p : Pair) → IsAtom word v → old.waits ≡ Some w → new.waits ≡ None → new.stack.items ≡ old.stack.items
+    → new.pairs.items ≡ old.pairs.items ++ p ∷ [] → entry_view p ≡ entry w.key w.at (datum v) → Takes at word old new
+put_takes at word old new w v p is some none stack pairs view = record {
+  words = rw (some, none, stack, pairs, is.word) (put_words (reverse old.stack.items) old.pairs.items p w.key w.at is.said old.nested (view ∙ ap (entry w.key w.at) is.value));
+  state = rw (some, none, stack) (step_value at (places old.stack.items) w.at word is.said is.word is.fit);
 }
 
-pub put_takes : (bytes : List ℕ) (old new : Builder) (t : Token) (w : Waiting) (v : Value) (p : Pair) → IsAtom bytes t v → old.waits ≡ Some w → new.waits ≡ None → new.stack.items ≡ old.stack.items
-    → new.pairs ≡ old.pairs ++ p ∷ [] → entry_view p ≡ entry w.key w.at (datum v) → Takes bytes old t new
-put_takes bytes old new t w v p is some none stack pairs view = record {
-  words = rw (some, none, stack, pairs, is.word) (put_words (flat_map frame_words old.stack.items) old.pairs p w.key w.at is.said (view ∙ ap (entry w.key w.at) is.value));
-  state = rw (some, none, stack) (step_value bytes (places old.stack.items) w.at t is.said is.word is.fit);
-}
+pub close_fails : (at : ℕ) (word : Word) (old : Builder) → word ≡ closes → old.waits ≡ None → length old.stack.items ≡ 0 → step_at (state_of old) at word ≡ Err (Stray at)
+close_fails at word old said none zero-is = rw (none, nil_from_length old.stack.items zero-is) (step_stray at word said)
 
-pub close_fails : (bytes : List ℕ) (old : Builder) (t : Token) → t.kind ≡ kinds.CloseList → old.waits ≡ None → length old.stack.items ≡ 0 → step bytes (state_of old) t ≡ Err (Stray t.from)
-close_fails bytes old t kind none zero-is = rw (none, nil_from_length old.stack.items zero-is) (step_stray bytes t kind)
-
-pub begin_fails : (bytes : List ℕ) (old : Builder) (t : Token) (w : Waiting) → t.kind ≡ kinds.OpenList → old.waits ≡ Some w → 32 ≤ length old.stack.items → step bytes (state_of old) t ≡ Err (TooDeep t.from)
-begin_fails bytes old t w kind some le = rw some (step_deep bytes (places old.stack.items) w.at t kind (omega (arith, length-places old.stack.items)))
+pub begin_fails : (at : ℕ) (word : Word) (old : Builder) (w : Waiting) → word ≡ opens → old.waits ≡ Some w → 32 ≤ length old.stack.items → step_at (state_of old) at word ≡ Err (TooDeep at)
+begin_fails at word old w said some le = rw some (step_deep at (places old.stack.items) w.at word said (omega (arith, length-places old.stack.items)))
 
 -- ---- values
 
-pub int_is : (bytes : List ℕ) (t : Token) (v : Value) (text : List ℕ) (n : ℤ) → t.kind ≡ kinds.Int → text ≡ part bytes t.from t.to → cond (fits (int (integer text))) (Some (integer text)) None ≡ Some n → datum v ≡ atom (int n) → IsAtom bytes t v
-int_is bytes t v text n kind text-is read view =
+pub int_is : (w : Word) (v : Value) (text : List ℕ) (n : ℤ) → w ≡ value (int (integer text)) → cond (fits (int (integer text))) (Some (integer text)) None ≡ Some n → datum v ≡ atom (int n) → IsAtom w v
+int_is w v text n said read view =
     let kept = cond_some (fits (int (integer text))) (integer text) n read in
     record {
       said = int (integer text);
       value = view ∙ ap (λ (z : ℤ). atom (int z)) (sym kept.1);
-      word = rw (kind, text-is) refl;
+      word = said;
       fit = kept.0;
     }
 
-pub real_is : (bytes : List ℕ) (t : Token) (v : Value) (text : List ℕ) → t.kind ≡ kinds.Real → text ≡ part bytes t.from t.to → datum v ≡ atom (real text) → IsAtom bytes t v
-real_is bytes t v text kind text-is view = record { said = real text; value = view; word = rw (kind, text-is) refl; fit = refl }
+pub real_is : (w : Word) (v : Value) (text : List ℕ) → w ≡ value (real text) → datum v ≡ atom (real text) → IsAtom w v
+real_is w v text said view = record { said = real text; value = view; word = said; fit = refl }
 
-pub str_is : (bytes : List ℕ) (t : Token) (v : Value) (text : List ℕ) → t.kind ≡ kinds.Str → text ≡ part bytes (t.from + 1) (t.to - 1) → datum v ≡ atom (str text) → IsAtom bytes t v
-str_is bytes t v text kind text-is view = record { said = str text; value = view; word = rw (kind, text-is) refl; fit = refl }
+pub str_is : (w : Word) (v : Value) (text : List ℕ) → w ≡ value (str text) → datum v ≡ atom (str text) → IsAtom w v
+str_is w v text said view = record { said = str text; value = view; word = said; fit = refl }

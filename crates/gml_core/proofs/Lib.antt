@@ -15,3 +15,11 @@ pub mod Exact
 pub mod Alone
 pub mod Well
 pub mod Sizes
+pub mod Looks
+pub mod Begins
+pub mod Resuming
+pub mod Faults
+pub mod TokensRead
+pub mod TreeRead
+pub mod Wholes
+pub mod Looked

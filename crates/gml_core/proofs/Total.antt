@@ -44,14 +44,14 @@ run_positive b bs e =
     omega arith
 
 -- a token that is there ends behind the place
-record IsAfter (at : ℕ) (r : Result Token GmlFault) : Type 0 where
-  moves : (t : Token) → r ≡ Ok t → at < t.to
+pub record IsAfter (at : ℕ) (r : Result Token GmlFault) : Type 0 where
+  pub moves : (t : Token) → r ≡ Ok t → at < t.to
 
 by_cond : (at : ℕ) (b : Bool) (x y : Result Token GmlFault) → (b ≡ true → IsAfter at x) → IsAfter at y → IsAfter at (cond b x y)
 by_cond at true x y h k = h refl
 by_cond at false x y h k = k
 
-token_at_moves : (at : ℕ) (bs : List ℕ) → IsAfter at (token_at at bs)
+pub token_at_moves : (at : ℕ) (bs : List ℕ) → IsAfter at (token_at at bs)
 unfolding token_at
 token_at_moves at [] = record { moves = λ t e. absurd cc }
 token_at_moves at (b ∷ bs) =
@@ -62,7 +62,7 @@ token_at_moves at (b ∷ bs) =
     (by_cond at (begins_number b) _ _ (λ h. record { moves = λ t e. number_moves at (prefix_len is_numeric (b ∷ bs)) (number_kind (take (prefix_len is_numeric (b ∷ bs)) (b ∷ bs))) t (run_positive b bs h) e })
     (record { moves = λ t e. absurd cc })))))
 
-found_moves : (from : ℕ) (r : Result Token GmlFault) (t : Token) → ((u : Token) → r ≡ Ok u → from < u.to) → found r ≡ Ok (Some t) → from < t.to
+pub found_moves : (from : ℕ) (r : Result Token GmlFault) (t : Token) → ((u : Token) → r ≡ Ok u → from < u.to) → found r ≡ Ok (Some t) → from < t.to
 found_moves from (Ok u) t h e = let same : u ≡ t = cc in subst (λ (v : Token). from < v.to) same (h u refl)
 found_moves from (Err f) t h e = absurd cc
 

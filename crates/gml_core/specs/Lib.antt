@@ -4,5 +4,8 @@ pub mod Trees
 pub mod Views
 pub mod Reading
 pub mod Sound
+pub mod Nested
 pub mod Building
 pub mod Printing
+pub mod Pieces
+pub mod Readers

@@ -5,6 +5,8 @@
 --   IsBounded tree            lists nest at most 32 deep, and integers are within signed 64 bits
 --   IsText bytes tree         the bytes are a text of the tree
 --   State                     where reading stands: the key that waits for its value, and the open lists
+--   said_by kind from text    the same, from the token's text
+--   step_at s at w            the state after one word more, or the word's fault
 --   step bytes s t            the state after one token more, or the token's fault
 --   end_fault s               the fault where the text ends
 --   Moves bytes s ts e        the tokens lead from one state to another
@@ -40,6 +42,15 @@ word_of bytes kinds.Key from to = key (part bytes from to) from
 word_of bytes kinds.Int from to = value (int (integer (part bytes from to)))
 word_of bytes kinds.Real from to = value (real (part bytes from to))
 word_of bytes kinds.Str from to = value (str (part bytes (from + 1) (to - 1)))
+
+-- the same, from the token's text, which for a string lies between its quotes
+abbrev pub said_by : TokenKind → ℕ → List ℕ → Word
+said_by kinds.OpenList from text = opens
+said_by kinds.CloseList from text = closes
+said_by kinds.Key from text = key text from
+said_by kinds.Int from text = value (int (integer text))
+said_by kinds.Real from text = value (real text)
+said_by kinds.Str from text = value (str text)
 
 abbrev pub word : List ℕ → Token → Word
 word bytes t = word_of bytes t.kind t.from t.to
@@ -86,6 +97,10 @@ at_value k lists at (value a) = if fits a then Ok (record { waits = None; lists 
 abbrev pub step_in : Option ℕ → List ℕ → ℕ → Word → Result State GmlFault
 step_in None lists at w = at_pair lists at w
 step_in (Some k) lists at w = at_value k lists at w
+
+-- the state after one word more at a place, or the word's fault
+unfoldable pub step_at : State → ℕ → Word → Result State GmlFault
+step_at s at w = step_in s.waits s.lists at w
 
 -- the state after one token more, or the token's fault
 unfoldable pub step : List ℕ → State → Token → Result State GmlFault

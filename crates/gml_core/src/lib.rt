@@ -10,15 +10,19 @@ pub mod laws;
 mod lexing;
 mod number;
 mod parsing;
+mod pieces;
 mod printing;
+mod readers;
 mod text;
 mod token;
 mod tree;
+mod within;
 
 pub use fault::GmlFault;
-pub use lexing::{Tokens, lex};
+pub use lexing::Tokens;
 pub use parsing::parse;
 pub use printing::print;
+pub use readers::{TokenReader, TreeReader, lex};
 pub use token::{Token, TokenKind};
 pub use tree::{Pair, Tree, Value};
 

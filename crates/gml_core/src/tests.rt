@@ -1,6 +1,6 @@
 //! What no clause says: the faults of whole files from outside, and printed bytes.
 
-ghost use Rattle.std.specs.Prelude.{◌<◌, ◌^◌, length};
+ghost use Rattle.std.specs.Prelude.{◌<◌, ◌+◌, ◌^◌, length};
 
 use super::*;
 use std::alloc::Global;
@@ -182,5 +182,40 @@ fn prints_what_was_pushed(rt: HostRuntime) -> Result<(), Fail> {
         print(alloc, &tree)?.bytes(),
         b"label \"A\"\nnode [\nid -7\nlabel \"A\"\n]\n".as_slice()
     );
+    Ok(())
+}
+
+/// What is said of the bytes, fed in two pieces.
+fn said_in_two(alloc: Global, first: &[u8], second: &[u8]) -> Result<String, Fail>
+    requires { length first.now + length second.now < 2 ^ 32 }
+{
+    let reader = TreeReader::new(alloc).feed(first)?.feed(second)?;
+    match reader.finish() {
+        Ok(_tree) => Ok(format!(in alloc; "tree")?),
+        Err(fault) => Ok(format!(in alloc; "{fault}")?),
+    }
+}
+
+#[test]
+fn two_pieces_are_one(rt: HostRuntime) -> Result<(), Fail> {
+    let texts = [
+        "\u{feff}graph [ x ]",
+        "graph[directed 0 weight 1e5 x -.5 y \"#\"]#",
+        "graph [ x 1e ]",
+        "graph [ x 9223372036854775808 ]",
+        "graph [ x [ y \"",
+    ];
+    for text in texts {
+        let bytes = text.as_bytes();
+        assert!(rt; bytes.len() < 100);
+        let whole = said(rt.alloc(), bytes)?;
+        for n in 0..=bytes.len() {
+            assert_eq!(rt;
+                said_in_two(rt.alloc(), &bytes[..n], &bytes[n..])?.as_str(),
+                whole.as_str(),
+                "{text} at {n}"
+            );
+        }
+    }
     Ok(())
 }
