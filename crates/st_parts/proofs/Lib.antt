@@ -1,0 +1,3 @@
+pub mod PairLemmas
+pub mod KeyLemmas
+pub mod StepLemmas

@@ -1,0 +1,4 @@
+pub mod Used
+pub mod Keys
+pub mod Kinds
+pub mod Parts
