@@ -8,9 +8,9 @@ use Rattle.st_input.specs.InputGraph.{InputGraph}
 use Rattle.st_input.specs.Embedding.{embedded_in, outer_end}
 use Rattle.st_input.specs.Orders.{AreAt, extended, is_free, default_order}
 use Rattle.st_input.specs.declared.graph.Found.{Found}
-use Rattle.st_input.specs.declared.parts.Node.{Node}
-use Rattle.st_input.specs.declared.parts.Edge.{Edge}
-use Rattle.st_input.specs.declared.parts.Parts.{Parts}
+use Rattle.st_parts.specs.declared.parts.Node.{Node}
+use Rattle.st_parts.specs.declared.parts.Edge.{Edge}
+use Rattle.st_parts.specs.declared.parts.Parts.{Parts}
 use Rattle.st_input.proofs.Fills.{full_is}
 
 abbrev pub made : Graph → List ℤ → List ℤ → List (Option (List ℕ)) → List (List ℕ) → Option ℕ → List (List ℤ) → InputGraph

@@ -4,8 +4,8 @@ use Rattle.std.proofs.lemmas.Grind.{common_steps}
 use Rattle.std.proofs.lemmas.List.{set-set, take_more, length-take-le, drop_all}
 use Rattle.std.proofs.lemmas.Option.{get_or_from_slice_get, slice_get-get_or, slice_get_within, slice_get-map}
 use Rattle.std.proofs.lemmas.Bool.{eqb-true, eqb-false}
-use Rattle.st_input.specs.declared.parts.Mention.{Mention}
-use Rattle.st_input.specs.declared.parts.Node.{Node}
+use Rattle.st_parts.specs.declared.parts.Mention.{Mention}
+use Rattle.st_parts.specs.declared.parts.Node.{Node}
 use Rattle.st_input.specs.Faults.{written, written_in}
 use Rattle.st_input.proofs.FitLemmas.{orders_length}
 use Rattle.st_input.specs.Orders.{is_free, default_order, order_from, orders_from, full_orders, AreAt, Filled, extended, one, outs, ins, outs_from, ins_from}

@@ -7,22 +7,22 @@ use Rattle.std.proofs.lemmas.List.{length-map}
 use Rattle.st_ids.specs.Lists.{In}
 use Rattle.st_ids.proofs.ListLemmas.{not_in_nil, In-cases, in_append}
 use Rattle.gml_core.specs.Trees.{Entry}
-use Rattle.st_input.specs.Used.{has_key, each, first_str}
-use Rattle.st_input.specs.Parts.{shown, shown_byte, shown_label, label_in, node_in, parts_in, pairs_in}
+use Rattle.st_parts.specs.Used.{has_key, each, first_str}
+use Rattle.st_parts.specs.Parts.{shown, shown_byte, shown_label, label_in, node_in, parts_in, pairs_in}
 use Rattle.st_input.specs.Names.{number_of, is_among, AreDifferent, positions}
-use Rattle.st_input.specs.Faults.{or_else, first_fault, name_fault, node_fault, node_name, node_names, mention_fault, order_fault, written_fault, orders_fault, edge_in, edges_in, edge_names, edge_ids, edge_id, all_named, ends_in, pair_in}
+use Rattle.st_input.specs.Faults.{or_else, first_fault, name_fault, node_fault, node_name, node_names, mention_fault, order_fault, written_fault, orders_fault, edge_in, edges_in, edge_names, edge_ids, edge_id, all_named, same_fault, id_fault, ids_fault, ends_in, pair_in}
 use Rattle.st_input.specs.Orders.{outs, ins, default_order, order_from, orders_from, full_orders}
 use Rattle.st_input.specs.InputGraph.{IsShown, IsLabel, AreLabels, IsConsistent}
 use Rattle.st_input.specs.Embedding.{end_in, outer_end, embedded_in}
 use Rattle.st_input.specs.FirstFault.{is_side, side_fault, outer_fault, parts_fault}
 use Rattle.st_input.specs.declared.fault.ShapeFault.{ShapeFault}
-use Rattle.st_input.specs.declared.fault.ShapeFault.TheVariants.{SameId, UnknownEdge, BadOuter}
-use Rattle.st_input.specs.declared.parts.Mention.{Mention}
-use Rattle.st_input.specs.declared.parts.Node.{Node}
-use Rattle.st_input.specs.declared.parts.Edge.{Edge}
-use Rattle.st_input.specs.declared.parts.Outer.{Outer}
-use Rattle.st_input.specs.declared.parts.Parts.{Parts}
-use Rattle.st_input.proofs.NameLemmas.{found_within, different_push, positions_length}
+use Rattle.st_input.specs.declared.fault.ShapeFault.TheVariants.{SameId, SameEdgeId, UnknownEdge, BadOuter}
+use Rattle.st_parts.specs.declared.parts.Mention.{Mention}
+use Rattle.st_parts.specs.declared.parts.Node.{Node}
+use Rattle.st_parts.specs.declared.parts.Edge.{Edge}
+use Rattle.st_parts.specs.declared.parts.Outer.{Outer}
+use Rattle.st_parts.specs.declared.parts.Parts.{Parts}
+use Rattle.st_input.proofs.NameLemmas.{found_within, different_push, positions_length, positions_differ}
 
 -- neither of two faults is found
 pub or_none : {A : Type 0} (a b : Option A) → or_else a b ≡ None → (a ≡ None) × (b ≡ None)
@@ -62,6 +62,34 @@ names_length es = by (all_named es)
     by : (b : Bool) → length (cond b (edge_ids es) (positions (length es))) ≡ length es
     by true = length-map es edge_id
     by false = positions_length (length es)
+
+fresh_id : (before : List ℤ) (name : ℤ) → same_fault before name ≡ None → is_among before name ≡ false
+fresh_id before name e = by (is_among before name) (SameEdgeId name) e
+  where
+    by : (b : Bool) (f : ShapeFault) → cond b (Some f) None ≡ None → b ≡ false
+    by true f e = absurd (cc)
+    by false f e = refl
+
+ids_push : (es : List Edge) (e : Edge) → edge_ids (es ++ e ∷ []) ≡ edge_ids es ++ edge_id e ∷ []
+ids_push [] e = refl
+ids_push (d ∷ es) e = ap (λ (zs : List ℤ). edge_id d ∷ zs) (ids_push es e)
+
+-- where no edge has the id of an earlier one, the ids differ
+different_ids : (before es : List Edge) → AreDifferent (edge_ids before) → first_fault id_fault before es ≡ None → AreDifferent (edge_ids (before ++ es))
+different_ids before [] different h = subst (λ (l : List Edge). AreDifferent (edge_ids l)) (sym (append-nil before)) different
+different_ids before (e ∷ es) different h =
+    let clear = or_none (id_fault before e) (first_fault id_fault (before ++ e ∷ []) es) h in
+    let fresh : is_among (edge_ids before) (edge_id e) ≡ false = fresh_id (edge_ids before) (edge_id e) clear.0 in
+    let pushed : AreDifferent (edge_ids (before ++ e ∷ [])) = subst AreDifferent (sym (ids_push before e)) (different_push (edge_ids before) (edge_id e) fresh different) in
+    subst (λ (l : List Edge). AreDifferent (edge_ids l)) (append_assoc before (e ∷ []) es) (different_ids (before ++ e ∷ []) es pushed clear.1)
+
+names_differ : (es : List Edge) → ids_fault es ≡ None → AreDifferent (edge_names es)
+unfolding edge_names
+names_differ es e = by (all_named es) e
+  where
+    by : (b : Bool) → cond b (first_fault id_fault [] es) None ≡ None → AreDifferent (cond b (edge_ids es) (positions (length es)))
+    by true h = different_ids [] es none_different h
+    by false h = positions_differ (length es)
 
 -- ---- labels
 each_cond : {A B : Type 0} (b : Bool) (x : A) (xs : List A) (y : B) (ys : List B) → length xs ≡ length ys → length (cond b (x ∷ xs) xs) ≡ length (cond b (y ∷ ys) ys)
@@ -230,6 +258,7 @@ consistent_in p a b e few_nodes few_edges labels printable =
       labels = labels;
       orders = orders_length ids ends 0 p.nodes;
       different = different_nodes [] p.nodes none_different e0.0;
+      edges_different = names_differ p.edges e2.0;
       shown = printable;
       listed = λ v x lt i. orders_within ids ends 0 p.nodes v x size e3.0 i;
       outer = outer_within ids (length ends) p.outer size e4.0;

@@ -3,15 +3,15 @@ use Rattle.std.proofs.Common.{◌≡◌, ◌<◌, ◌≤◌, ◌^◌, ℕ, Bool,
 use Rattle.std.proofs.lemmas.Bool.Decides.{nat_tests}
 use Rattle.std.proofs.lemmas.List.{length-map}
 use Rattle.gml_core.specs.Trees.{Entry, Entries, listed}
-use Rattle.st_input.specs.Used.{first}
-use Rattle.st_input.specs.Parts.{parts_in}
+use Rattle.st_parts.specs.Used.{first}
+use Rattle.st_parts.specs.Parts.{parts_in}
 use Rattle.st_input.specs.InputGraph.{InputGraph, IsConsistent}
 use Rattle.st_input.specs.Embedding.{embedded_in, embedded_graph}
 use Rattle.st_input.specs.Faults.{or_else, first_fault, node_fault, edge_fault, node_names, ids_fault, orders_fault, edge_names, pair_in, ends_in}
 use Rattle.st_input.specs.FirstFault.{limits_fault, outer_fault, parts_fault, text_fault, graph_fault, shape_fault}
 use Rattle.st_input.specs.declared.fault.ShapeFault.{ShapeFault}
 use Rattle.st_input.specs.declared.fault.ShapeFault.TheVariants.{TooManyVertices, TooManyEdges}
-use Rattle.st_input.specs.declared.parts.Parts.{Parts}
+use Rattle.st_parts.specs.declared.parts.Parts.{Parts}
 use Rattle.st_input.proofs.FitLemmas.{or_none, consistent_in, labels_fit}
 
 some_same : {A : Type 0} (x y : A) → Some x ≡ Some y → x ≡ y

@@ -1,4 +1,3 @@
-pub mod PairLemmas
 pub mod NameLemmas
 pub mod FitLemmas
 pub mod PathLemmas

@@ -138,6 +138,17 @@ by_position_neg : (n j : ℕ) → by_position n (negsuc j) ≡ None
 unfolding by_position
 by_position_neg n j = refl
 
+positions_at : (n k : ℕ) (name : ℤ) → slice_get (positions n) k ≡ Some name → pos k ≡ name
+positions_at n k name found =
+    let within : k < length (positions n) = slice_get_within (positions n) k name found in
+    let small : k < n = omega (arith, positions_length n) in
+    sym (positions_get n k name small) ∙ get_or_from_slice_get (positions n) k name name found
+
+pub positions_differ : (n : ℕ) → AreDifferent (positions n)
+positions_differ n u v name a b =
+    let same : pos u ≡ pos v = positions_at n u name a ∙ sym (positions_at n v name b) in
+    cc
+
 -- among the positions a name is found by its size
 pub position_found : (n : ℕ) (name : ℤ) → number_of (positions n) name ≡ by_position n name
 position_found n (pos j) = elim (cases_lt j n) [

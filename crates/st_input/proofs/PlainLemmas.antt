@@ -17,7 +17,7 @@ use Rattle.st_input.specs.InputGraph.{InputGraph, IsConsistent, AreLabels, AreLi
 use Rattle.st_input.specs.Names.{AreDifferent, is_among, positions}
 use Rattle.st_input.specs.Orders.{IsWithin, Filled, default_order}
 use Rattle.st_input.specs.Plain.{counted, default_orders, plain_graph, int_pair, node_pair, edge_pair, graph_pairs, plain_entries, IsFlat}
-use Rattle.st_input.proofs.NameLemmas.{positions_length, other_pos}
+use Rattle.st_input.proofs.NameLemmas.{positions_length, positions_differ, other_pos}
 use Rattle.st_input.proofs.FitLemmas.{default_within}
 use Rattle.st_input.proofs.Fills.{same_lists_at}
 
@@ -127,6 +127,7 @@ plain_fits g few_vertices few_edges = record {
   labels = length-replicate g.vertices None;
   orders = orders_size g;
   different = counted_differ g.vertices;
+  edges_different = positions_differ (length g.ends);
   shown = no_label g.vertices;
   listed = default_listed g;
   outer = tt;

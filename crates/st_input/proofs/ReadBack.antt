@@ -11,9 +11,9 @@ use Rattle.st_ids.specs.Graph.{Graph, HasEnds}
 use Rattle.gml_core.specs.Trees.{int, atom, list, Entry, entry, Entries, none, more, listed}
 use Rattle.gml_core.specs.Views.{entries_of}
 use Rattle.gml_core.specs.Printing.{at_zero, entry_at_zero}
-use Rattle.st_input.specs.Used.{first, each}
-use Rattle.st_input.specs.Kinds.{earliest, part_wrong, graph_wrong}
-use Rattle.st_input.specs.Parts.{parts_say, node_in, label_in, edge_in, path_in}
+use Rattle.st_parts.specs.Used.{first, each}
+use Rattle.st_parts.specs.Kinds.{earliest, part_wrong, graph_wrong}
+use Rattle.st_parts.specs.Parts.{parts_say, node_in, label_in, edge_in, path_in}
 use Rattle.st_input.specs.Names.{number_of, is_among, AreDifferent, positions}
 use Rattle.st_input.specs.Faults.{or_else, first_fault, node_fault, node_name, node_names, edge_fault, end_fault, ids_fault, edge_names, ends_in, pair_in, orders_fault}
 use Rattle.st_input.specs.Orders.{IsWithin, default_order, orders_from, full_orders}
@@ -21,9 +21,9 @@ use Rattle.st_input.specs.InputGraph.{InputGraph}
 use Rattle.st_input.specs.Embedding.{embedded_in, embedded_graph}
 use Rattle.st_input.specs.FirstFault.{limits_fault, text_fault, parts_fault, shape_fault}
 use Rattle.st_input.specs.Plain.{counted, default_orders, plain_graph, int_pair, node_pair, edge_pair, graph_pairs, plain_entries}
-use Rattle.st_input.specs.declared.parts.Node.{Node}
-use Rattle.st_input.specs.declared.parts.Edge.{Edge}
-use Rattle.st_input.specs.declared.parts.Parts.{Parts}
+use Rattle.st_parts.specs.declared.parts.Node.{Node}
+use Rattle.st_parts.specs.declared.parts.Edge.{Edge}
+use Rattle.st_parts.specs.declared.parts.Parts.{Parts}
 use Rattle.st_input.proofs.BuildLemmas.{made}
 use Rattle.st_input.proofs.NameLemmas.{number_in, decided_false, other_pos}
 use Rattle.st_input.proofs.FitLemmas.{names_push}

@@ -4,14 +4,14 @@
 --   embedded_graph text    the graph of a text, where it has a pair `graph`
 use Rattle.std.specs.Prelude.{◌+◌, ◌*◌, ℕ, ℤ, nat_abs, List, length, Option, None, Some, option_map, codes}
 use Rattle.gml_core.specs.Trees.{Entry, Entries, listed}
-use Rattle.st_input.specs.Used.{first}
-use Rattle.st_input.specs.Parts.{parts_in}
+use Rattle.st_parts.specs.Used.{first}
+use Rattle.st_parts.specs.Parts.{parts_in}
 use Rattle.st_input.specs.Faults.{node_names, edge_names, ends_in, edge_in}
 use Rattle.st_input.specs.Orders.{full_orders}
 use Rattle.st_input.specs.InputGraph.{InputGraph}
-use Rattle.st_input.specs.declared.parts.Mention.{Mention}
-use Rattle.st_input.specs.declared.parts.Outer.{Outer}
-use Rattle.st_input.specs.declared.parts.Parts.{Parts}
+use Rattle.st_parts.specs.declared.parts.Mention.{Mention}
+use Rattle.st_parts.specs.declared.parts.Outer.{Outer}
+use Rattle.st_parts.specs.declared.parts.Parts.{Parts}
 
 -- the end of an edge whose face is the outer one: on its left for the side 0, on its right for the side 1
 abbrev pub end_in : List ℤ → Option Mention → Option ℤ → Option ℕ

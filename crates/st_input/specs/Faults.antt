@@ -9,9 +9,9 @@
 use Rattle.std.specs.Prelude.{◌≡◌, ◌≢◌, ℕ, ℤ, pos, Bool, true, false, List, [], ◌∷◌, ◌++◌, map, length, Option, None, Some, Result, IfErr, if◌then◌else◌, is_some}
 use Rattle.std.specs.Option.{unwrap_or, option_and_then}
 use Rattle.st_input.specs.Names.{is_among, number_of, positions}
-use Rattle.st_input.specs.declared.parts.Mention.{Mention}
-use Rattle.st_input.specs.declared.parts.Node.{Node}
-use Rattle.st_input.specs.declared.parts.Edge.{Edge}
+use Rattle.st_parts.specs.declared.parts.Mention.{Mention}
+use Rattle.st_parts.specs.declared.parts.Node.{Node}
+use Rattle.st_parts.specs.declared.parts.Edge.{Edge}
 use Rattle.st_input.specs.declared.fault.ShapeFault.{ShapeFault}
 use Rattle.st_input.specs.declared.fault.ShapeFault.TheVariants.{NoId, SameId, NoEnd, UnknownEnd, SameEdgeId, UnknownEdge, NoMemory}
 

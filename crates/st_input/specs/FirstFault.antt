@@ -6,13 +6,13 @@
 --   shape_fault text ..       the first fault of a text
 use Rattle.std.specs.Prelude.{ℕ, ℤ, pos, Bool, ◌&&◌, List, [], length, Option, None, Some, if◌then◌else◌, int_le, nat_lt, codes, option_map}
 use Rattle.gml_core.specs.Trees.{Entry, Entries, listed}
-use Rattle.st_input.specs.Used.{first}
-use Rattle.st_input.specs.Kinds.{bad_kind}
-use Rattle.st_input.specs.Parts.{parts_in, second}
+use Rattle.st_parts.specs.Used.{first}
+use Rattle.st_parts.specs.Kinds.{bad_kind}
+use Rattle.st_parts.specs.Parts.{parts_in, second}
 use Rattle.st_input.specs.Faults.{or_else, first_fault, node_fault, node_names, edge_fault, ids_fault, edge_names, orders_fault, mention_fault}
-use Rattle.st_input.specs.declared.parts.Mention.{Mention}
-use Rattle.st_input.specs.declared.parts.Outer.{Outer}
-use Rattle.st_input.specs.declared.parts.Parts.{Parts}
+use Rattle.st_parts.specs.declared.parts.Mention.{Mention}
+use Rattle.st_parts.specs.declared.parts.Outer.{Outer}
+use Rattle.st_parts.specs.declared.parts.Parts.{Parts}
 use Rattle.st_input.specs.declared.fault.ShapeFault.{ShapeFault}
 use Rattle.st_input.specs.declared.fault.ShapeFault.TheVariants.{NoGraph, SecondGraph, BadKind, BadOuter, TooManyVertices, TooManyEdges}
 

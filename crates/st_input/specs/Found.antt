@@ -8,7 +8,7 @@ use Rattle.st_input.specs.InputGraph.{InputGraph}
 use Rattle.st_input.specs.Faults.{node_names, edge_names, ends_in, written_in}
 use Rattle.st_input.specs.Orders.{IsWithin}
 use Rattle.st_input.specs.Embedding.{outer_end}
-use Rattle.st_input.specs.declared.parts.Parts.{Parts}
+use Rattle.st_parts.specs.declared.parts.Parts.{Parts}
 use Rattle.st_input.specs.declared.graph.Found.{Found}
 
 -- the tables of a graph as one value

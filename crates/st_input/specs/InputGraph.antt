@@ -49,6 +49,7 @@ pub record IsConsistent (g : InputGraph) : Type 0 where
   pub labels : length g.labels ≡ g.graph.vertices
   pub orders : length g.orders ≡ g.graph.vertices
   pub different : AreDifferent g.vertex_names
+  pub edges_different : AreDifferent g.edge_names
   pub shown : AreLabels g.labels
   pub listed : AreListed g.graph g.orders
   pub outer : IfSome g.outer (λ d. d < 2 * length g.graph.ends)

@@ -1,6 +1,3 @@
-pub mod Used
-pub mod Kinds
-pub mod Parts
 pub mod Names
 pub mod Faults
 pub mod EdgeNames

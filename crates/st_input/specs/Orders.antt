@@ -8,8 +8,8 @@
 -- With all edges going up, a clockwise list has the edges out from left to right and then the edges in from right to
 -- left: so by default both go from left to right in file order.
 use Rattle.std.specs.Prelude.{◌≡◌, ℕ, ℤ, ◌+◌, ◌<◌, ◌==◌, Bool, false, List, [], ◌∷◌, ◌++◌, length, Option, None, Some, if◌then◌else◌, slice_index_or, is_none}
-use Rattle.st_input.specs.declared.parts.Node.{Node}
-use Rattle.st_input.specs.declared.parts.Mention.{Mention}
+use Rattle.st_parts.specs.declared.parts.Node.{Node}
+use Rattle.st_parts.specs.declared.parts.Mention.{Mention}
 use Rattle.st_input.specs.Faults.{edges_in}
 
 -- the edges out of v in file order

@@ -5,9 +5,9 @@ ghost use Rattle.st_input.specs.Names.{by_position, number_of};
 ghost use Rattle.std.specs.Prelude.{◌≡◌, [], ◌∷◌, ◌++◌, ◌<◌, ◌^◌, length, map, None, IfOk, IfSome, OnOk};
 
 use crate::fault::ShapeFault;
-use crate::names::NameSet;
-use crate::parts::{Edge, Mention, Node};
+use crate::names::{NameSet, Salted};
 use st_ids::{EdgeId, EdgeList, IdVec, VertexId};
+use st_parts::parts::{Edge, Mention, Node};
 use std::alloc::Global;
 
 /// How edges are found: by their ids, or, of so many edges, by their positions.
@@ -37,16 +37,38 @@ pub(crate) fn id_of(edge: Edge) -> i64
     }
 }
 
-fn add_id(set: &mut NameSet, id: i64) -> Result<(), ShapeFault>
-    ensures names { OnOk result (set.new ≡ set.old ++ id ∷ []) }
-    ensures none { OnOk result (same_fault set.old id ≡ None) }
-    ensures fault { FailsBy (same_fault set.old id) result }
+fn add_id(set: &mut NameSet, edge: &Edge) -> Result<(), ShapeFault>
+    ensures names { OnOk result (set.new ≡ set.old ++ edge_id edge.now ∷ []) }
+    ensures none { OnOk result (same_fault set.old (edge_id edge.now) ≡ None) }
+    ensures fault { FailsBy (same_fault set.old (edge_id edge.now)) result }
 {
+    let id = id_of(*edge);
     if set.add(id)? {
         Ok(())
     } else {
         Err(ShapeFault::SameEdgeId { id })
     }
+}
+
+fn salt_of(edges: &[Edge]) -> Salted {
+    let mut salt = Salted::new();
+    for edge in edges {
+        salt.take(id_of(*edge));
+    }
+    salt
+}
+
+fn add_ids(set: &mut NameSet, edges: &[Edge]) -> Result<(), ShapeFault>
+    requires { set.old ≡ [] }
+    ensures names { OnOk result (set.new ≡ edge_ids edges.now) }
+    ensures size { OnOk result (length set.new ≡ length edges.now) }
+    ensures none { OnOk result (first_fault id_fault [] edges.now ≡ None) }
+    ensures fault { FailsBy (first_fault id_fault [] edges.now) result }
+{
+    for edge in edges {
+        add_id(set, edge)?;
+    }
+    Ok(())
 }
 
 fn ids_of(alloc: Global, edges: &[Edge]) -> Result<NameSet, ShapeFault>
@@ -55,10 +77,8 @@ fn ids_of(alloc: Global, edges: &[Edge]) -> Result<NameSet, ShapeFault>
     ensures none { OnOk result (first_fault id_fault [] edges.now ≡ None) }
     ensures fault { FailsBy (first_fault id_fault [] edges.now) result }
 {
-    let mut set = NameSet::new(alloc);
-    for edge in edges {
-        add_id(&mut set, id_of(*edge))?;
-    }
+    let mut set = NameSet::with_room(alloc, edges.len(), salt_of(edges))?;
+    add_ids(&mut set, edges)?;
     Ok(set)
 }
 
@@ -159,7 +179,7 @@ pub(crate) fn orders_of(
     ensures none { OnOk result (orders_fault (known_names names.now) nodes.now ≡ None) }
     ensures fault { FailsBy (orders_fault (known_names names.now) nodes.now) result }
 {
-    let mut out = IdVec::new(alloc);
+    let mut out = IdVec::with_capacity(alloc, nodes.len() as u32)?;
     for node in nodes {
         let order = order_of(alloc, names, node)?;
         let _: VertexId = out.push(order)?;

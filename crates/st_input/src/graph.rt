@@ -9,25 +9,24 @@ ghost use Rattle.st_input.specs.Found.{IsFound, tabled};
 ghost use Rattle.st_input.specs.FirstFault.{parts_fault, shape_fault, text_fault};
 ghost use Rattle.st_input.specs.InputGraph.{AreLabels, AreListed, IsConsistent};
 ghost use Rattle.st_input.specs.Names.{AreDifferent};
-ghost use Rattle.st_input.specs.Parts.{parts_in};
+ghost use Rattle.st_parts.specs.Parts.{parts_in};
 ghost use Rattle.st_input.specs.Paths.{ArePathsThere, PathsFailBy, path_name_fault, paths_by};
-ghost use Rattle.st_input.specs.Used.{HasSoundList, datum_of};
-ghost use Rattle.std.specs.Prelude.{◌≡◌, ◌≢◌, ◌<◌, ◌≤◌, ◌*◌, ◌^◌, ℕ, length, option_map, slice_get, None, Some, IfOk, IfSome, MatchOption, OnOk};
+ghost use Rattle.st_parts.specs.Used.{HasSoundList, datum_of, first};
+ghost use Rattle.std.specs.Prelude.{◌≡◌, ◌≢◌, ◌<◌, ◌≤◌, ◌*◌, ◌^◌, ℕ, codes, length, option_map, slice_get, None, Some, IfOk, IfSome, MatchOption, OnOk};
 
 use crate::edges::{EdgeNames, edges_by_name, orders_of};
 use crate::fault::{PathNameFault, ShapeFault};
-use crate::kinds::bad_kind_of;
 use crate::names::NameSet;
 use crate::nodes::{ends_of, nodes_by_name};
 use crate::orders::whole_orders;
 use crate::outer::{limits, outer_of};
-use crate::parts::{Parts, parts_of, second_at};
 use crate::paths::paths_of;
 use crate::tables::{edge_table, graph_of, vertex_table};
-use crate::used::first_pair;
 use gml_core::{Pair, Tree};
 use sqlite_items::Items;
 use st_ids::{Dart, Digraph, EdgeList, IdVec, Names, NoMemory, PathList, VertexId};
+use st_parts::parts::{Parts, Scan, scan_graph};
+use st_parts::used::{first_pair, second_at};
 use std::alloc::Global;
 use std::marker::Model;
 
@@ -71,12 +70,13 @@ impl GraphSpec {
         ensures edge { result.now.edge ≡ self.now.edge_names }
         ensures label { result.now.label ≡ self.now.labels }
 
-        // There is one of each, the vertex names differ, and what is to be shown can be shown.
+        // There is one of each, names of vertices differ and so do those of edges, and what is to be shown can be shown.
         ensures vertices { length self.now.vertex_names ≡ self.now.graph.vertices }
         ensures few { length self.now.vertex_names < 2 ^ 30 }
         ensures edges { length self.now.edge_names ≡ length self.now.graph.ends }
         ensures labels { length self.now.labels ≡ self.now.graph.vertices }
         ensures different { AreDifferent self.now.vertex_names }
+        ensures edges_different { AreDifferent self.now.edge_names }
         ensures shown { AreLabels self.now.labels }
     {
         &self.names
@@ -229,36 +229,47 @@ fn build(alloc: Global, parts: Parts, found: Found) -> Result<GraphSpec, NoMemor
     Ok(assemble(graph, names, orders, outer, paths, by_name, edge_names))
 }
 
-fn spec_of(
-    alloc: Global,
-    graph: &Pair,
-    max_vertices: u32,
-    max_edges: u32,
-) -> Result<GraphSpec, ShapeFault>
+/// What the pair `graph` of a tree says, where it is the only one and each used pair has the right kind.
+fn scanned(alloc: Global, tree: &Tree, graph: &Pair) -> Result<Parts, ShapeFault>
+    requires tree { IsSound (view tree.now) }
     requires sound { HasSoundList (datum_of (entry_view graph.now)) }
-    requires vertices { max_vertices < 2 ^ 30 }
-    requires edges { max_edges < 2 ^ 30 }
-    ensures value { IfOk result (λ s. s ≡ embedded_in (parts_in (entry_view graph.now))) }
-    ensures none { OnOk result (parts_fault (parts_in (entry_view graph.now)) max_vertices max_edges ≡ None) }
-    ensures fault { FailsBy (parts_fault (parts_in (entry_view graph.now)) max_vertices max_edges) result }
-{
-    let parts = parts_of(alloc, graph)?;
-    let found = look_up(alloc, &parts, max_vertices, max_edges)?;
-    Ok(build(alloc, parts, found)?)
-}
-
-fn text_of(tree: &Tree) -> Result<(), ShapeFault>
-    requires { IsSound (view tree.now) }
+    requires first { first (codes "graph") (listed (view tree.now)) ≡ Some (entry_view graph.now) }
+    ensures parts { IfOk result (λ p. p ≡ parts_in (entry_view graph.now)) }
+    ensures nodes { IfOk result (λ p. length p.nodes < 2 ^ 31) }
+    ensures edges { IfOk result (λ p. length p.edges < 2 ^ 31) }
+    ensures paths { IfOk result (λ p. length p.paths < 2 ^ 31) }
     ensures none { OnOk result (text_fault (listed (view tree.now)) ≡ None) }
     ensures fault { FailsBy (text_fault (listed (view tree.now))) result }
 {
     if let Some(at) = second_at(tree, b"graph") {
         return Err(ShapeFault::SecondGraph { at });
     }
-    if let Some(at) = bad_kind_of(tree) {
-        return Err(ShapeFault::BadKind { at });
+    let Scan { parts, wrong } = scan_graph(alloc, graph)?;
+    match wrong {
+        Some(at) => Err(ShapeFault::BadKind { at }),
+        None => Ok(parts),
     }
-    Ok(())
+}
+
+fn spec_of(
+    alloc: Global,
+    parts: Parts,
+    max_vertices: u32,
+    max_edges: u32,
+) -> Result<GraphSpec, ShapeFault>
+    requires labels { length parts.labels ≡ length parts.nodes }
+    requires shown { AreLabels parts.labels }
+    requires nodes { length parts.nodes < 2 ^ 31 }
+    requires edges { length parts.edges < 2 ^ 31 }
+    requires paths { length parts.paths < 2 ^ 31 }
+    requires few_vertices { max_vertices < 2 ^ 30 }
+    requires few_edges { max_edges < 2 ^ 30 }
+    ensures value { IfOk result (λ s. s ≡ embedded_in parts) }
+    ensures none { OnOk result (parts_fault parts max_vertices max_edges ≡ None) }
+    ensures fault { FailsBy (parts_fault parts max_vertices max_edges) result }
+{
+    let found = look_up(alloc, &parts, max_vertices, max_edges)?;
+    Ok(build(alloc, parts, found)?)
 }
 
 #[tactic(auto, unfolding(crate::specs::Embedding::embedded_graph, crate::specs::FirstFault::shape_fault))]
@@ -285,8 +296,8 @@ pub fn read_graph(
 {
     match first_pair(tree, b"graph") {
         Some(graph) => {
-            text_of(tree)?;
-            spec_of(alloc, graph, max_vertices, max_edges)
+            let parts = scanned(alloc, tree, graph)?;
+            spec_of(alloc, parts, max_vertices, max_edges)
         }
         None => Err(ShapeFault::NoGraph),
     }

@@ -4,17 +4,14 @@
 mod edges;
 mod fault;
 mod graph;
-mod kinds;
 pub mod laws;
 mod names;
 mod nodes;
 mod orders;
 mod outer;
-mod parts;
 mod paths;
 mod plain;
 mod tables;
-mod used;
 
 pub use fault::{PathNameFault, ShapeFault};
 pub use graph::{GraphSpec, read_graph};
@@ -156,35 +153,39 @@ mod tests {
         Ok(())
     }
 
-    /// What is said of the paths of a text: their edges, or their fault.
+    /// What is said of the paths of a text: the edges of each, or their fault.
     fn paths_said(alloc: Global, text: &[u8]) -> Result<String, Fail> {
         let spec = read(alloc, text)?;
+        let mut said = String::new(alloc);
         match spec.paths(alloc) {
-            Ok(paths) => Ok(format!(in alloc; "{paths:?}")?),
-            Err(fault) => Ok(format!(in alloc; "{fault}")?),
+            Ok(paths) => {
+                for i in 0..paths.len() {
+                    let edges = paths.path(i);
+                    write!(&mut said, "{edges:?}")?;
+                }
+            }
+            Err(fault) => write!(&mut said, "{fault}")?,
         }
+        Ok(said)
     }
 
     #[test]
     fn paths_are_told_by_their_edges(rt: HostRuntime) -> Result<(), Fail> {
         let alloc = rt.alloc();
         let rows: [(&[u8], &str); 7] = [
-            (b"graph [ ]", "PathList { paths: [] }"),
-            (
-                b"graph [ path [ ] ]",
-                "PathList { paths: [EdgeList { edges: [] }] }",
-            ),
+            (b"graph [ ]", ""),
+            (b"graph [ path [ ] ]", "[]"),
             (
                 b"graph [ node [ id 1 ] node [ id 2 ] edge [ source 1 target 2 ] edge [ source 1 target 2 ] edge [ source 1 target 2 ] path [ e 2 e 0 ] path [ e 9 ] ]",
                 "1 names unknown edge 9",
             ),
             (
                 b"graph [ node [ id 1 ] node [ id 2 ] edge [ source 1 target 2 ] edge [ source 1 target 2 ] path [ e 1 e 0 ] path [ e 1 ] ]",
-                "PathList { paths: [EdgeList { edges: [EdgeId(1), EdgeId(0)] }, EdgeList { edges: [EdgeId(1)] }] }",
+                "[EdgeId(1), EdgeId(0)][EdgeId(1)]",
             ),
             (
                 b"graph [ node [ id 1 ] node [ id 2 ] edge [ id 7 source 1 target 2 ] edge [ id -4 source 1 target 2 ] path [ e -4 ] ]",
-                "PathList { paths: [EdgeList { edges: [EdgeId(1)] }] }",
+                "[EdgeId(1)]",
             ),
             (
                 b"graph [ node [ id 1 ] node [ id 2 ] edge [ id 7 source 1 target 2 ] path [ ] path [ e 7 e 0 e 3 ] ]",

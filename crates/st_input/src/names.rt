@@ -5,10 +5,11 @@ ghost use Rattle.std.specs.Prelude.{◌≡◌, ◌≢◌, ℕ, [], ◌∷◌, �
 use indexmap::IndexSet;
 use st_ids::NoMemory;
 use std::alloc::Global;
+use std::hash::{BuildHasher, DefaultHasher, Hasher};
 use std::marker::Model;
 
 #[tactic(auto, unfolding(crate::specs::Names::number_of))]
-fn find_in(set: &IndexSet<i64>, name: &i64) -> Option<u32>
+fn find_in(set: &IndexSet<i64, Salted>, name: &i64) -> Option<u32>
     requires { length set.now.keys < 2 ^ 32 }
     ensures number { result ≡ number_of set.now.keys name.now }
     ensures within { IfSome result (λ n. n < length set.now.keys) }
@@ -19,10 +20,39 @@ fn find_in(set: &IndexSet<i64>, name: &i64) -> Option<u32>
     }
 }
 
+/// Makes hashers that begin with all names of a file, so that no file has names of one hash by design.
+#[derive(Clone, Copy)]
+pub(crate) struct Salted {
+    begun: DefaultHasher,
+}
+
+impl BuildHasher for Salted {
+    type Hasher = DefaultHasher;
+
+    ghost build_hasher = { λ s. s.begun };
+
+    fn build_hasher(&self) -> DefaultHasher {
+        self.begun
+    }
+}
+
+impl Salted {
+    pub(crate) fn new() -> Salted {
+        Salted {
+            begun: DefaultHasher::new(),
+        }
+    }
+
+    /// Takes a name in.
+    pub(crate) fn take(&mut self, name: i64) {
+        self.begun.write_i64(name);
+    }
+}
+
 /// Different names, each of which has its place in the list as its number.
 #[derive(Drop)]
 pub(crate) struct NameSet {
-    set: IndexSet<i64>,
+    set: IndexSet<i64, Salted>,
 }
 
 impl Model for NameSet {
@@ -34,11 +64,13 @@ impl Model for NameSet {
 }
 
 impl NameSet {
-    pub(crate) fn new(alloc: Global) -> NameSet
-        ensures { result ≡ [] }
+    /// No names yet, with room for n of them.
+    pub(crate) fn with_room(alloc: Global, n: usize, salt: Salted) -> Result<NameSet, NoMemory>
+        ensures { IfOk result (λ s. s ≡ []) }
     {
-        NameSet {
-            set: IndexSet::new(alloc),
+        match IndexSet::with_capacity_and_hasher(alloc, n, salt) {
+            Ok(set) => Ok(NameSet { set }),
+            Err(_) => Err(NoMemory),
         }
     }
 

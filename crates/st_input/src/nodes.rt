@@ -5,9 +5,9 @@ ghost use Rattle.st_input.specs.Orders.{IsWithin};
 ghost use Rattle.std.specs.Prelude.{◌≡◌, [], ◌∷◌, ◌++◌, ◌<◌, ◌^◌, length, All, None, Some, IfOk, OnOk};
 
 use crate::fault::ShapeFault;
-use crate::names::NameSet;
-use crate::parts::{Edge, Node, put};
+use crate::names::{NameSet, Salted};
 use sqlite_items::Items;
+use st_parts::parts::{Edge, Node, put};
 use std::alloc::Global;
 
 fn add_node(set: &mut NameSet, node: &Node) -> Result<(), ShapeFault>
@@ -27,6 +27,16 @@ fn add_node(set: &mut NameSet, node: &Node) -> Result<(), ShapeFault>
     }
 }
 
+fn salt_of(nodes: &[Node]) -> Salted {
+    let mut salt = Salted::new();
+    for node in nodes {
+        if let Some(id) = node.id {
+            salt.take(id);
+        }
+    }
+    salt
+}
+
 /// The names of the nodes.
 pub(crate) fn nodes_by_name(alloc: Global, nodes: &[Node]) -> Result<NameSet, ShapeFault>
     ensures names { IfOk result (λ s. s ≡ node_names nodes.now) }
@@ -34,7 +44,7 @@ pub(crate) fn nodes_by_name(alloc: Global, nodes: &[Node]) -> Result<NameSet, Sh
     ensures none { OnOk result (first_fault node_fault [] nodes.now ≡ None) }
     ensures fault { FailsBy (first_fault node_fault [] nodes.now) result }
 {
-    let mut set = NameSet::new(alloc);
+    let mut set = NameSet::with_room(alloc, nodes.len(), salt_of(nodes))?;
     for node in nodes {
         add_node(&mut set, node)?;
     }

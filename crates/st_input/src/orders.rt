@@ -5,8 +5,8 @@
 ghost use Rattle.st_input.specs.Orders.{AreAt, Filled, IsWithin, default_order, extended, ins_from, is_free, one, outs_from};
 ghost use Rattle.std.specs.Prelude.{◌≡◌, ℕ, [], ◌∷◌, ◌++◌, ◌<◌, ◌^◌, length, map, slice_index_or, slice_set, All, IfOk, OnOk};
 
-use crate::parts::Node;
 use st_ids::{EdgeId, EdgeList, IdVec, NoMemory, VertexId};
+use st_parts::parts::Node;
 use std::alloc::Global;
 
 fn free_of(alloc: Global, nodes: &[Node]) -> Result<IdVec<VertexId, bool>, NoMemory>
@@ -14,7 +14,7 @@ fn free_of(alloc: Global, nodes: &[Node]) -> Result<IdVec<VertexId, bool>, NoMem
     ensures value { IfOk result (λ o. o ≡ map is_free nodes.now) }
     ensures size { IfOk result (λ o. length o ≡ length nodes.now) }
 {
-    let mut free = IdVec::new(alloc);
+    let mut free = IdVec::with_capacity(alloc, nodes.len() as u32)?;
     for node in nodes {
         let _: VertexId = free.push(node.order.is_none())?;
     }

@@ -7,8 +7,8 @@ ghost use Rattle.std.specs.Prelude.{◌≡◌, ◌<◌, ◌≤◌, ◌*◌, ◌^
 
 use crate::edges::{EdgeNames, mentioned};
 use crate::fault::ShapeFault;
-use crate::parts::{Mention, Outer};
 use st_ids::Dart;
+use st_parts::parts::{Mention, Outer};
 
 fn side_of(
     names: &EdgeNames,

@@ -9,7 +9,7 @@ ghost use Rattle.std.specs.Prelude.{◌≡◌, ◌+◌, ◌<◌, ◌^◌, [], �
 
 use crate::edges::EdgeNames;
 use crate::graph::{GraphSpec, assemble};
-use crate::names::NameSet;
+use crate::names::{NameSet, Salted};
 use crate::orders::fill_free;
 use crate::tables::positions_table;
 use gml_core::Tree;
@@ -35,7 +35,7 @@ fn counted_table(alloc: Global, n: u32) -> Result<IdVec<VertexId, i64>, NoMemory
 fn counted_set(alloc: Global, n: u32) -> Result<NameSet, NoMemory>
     ensures { IfOk result (λ names. names ≡ counted n) }
 {
-    let mut names = NameSet::new(alloc);
+    let mut names = NameSet::with_room(alloc, n as usize, Salted::new())?;
     for v in 0..n {
         names.add(i64::from(v + 1))?;
     }

@@ -5,9 +5,9 @@ ghost use Rattle.st_input.specs.Orders.{IsWithin};
 ghost use Rattle.std.specs.Prelude.{◌≡◌, ◌<◌, ◌^◌, length, map, All, IfOk};
 
 use crate::edges::{all_have_ids, id_of};
-use crate::parts::{Edge, Node};
 use sqlite_items::Items;
 use st_ids::{Digraph, EdgeId, IdVec, NoMemory, VertexId};
+use st_parts::parts::{Edge, Node};
 use std::alloc::Global;
 
 fn graph_with(alloc: Global, n: u32, ends: &[(u32, u32)]) -> Result<Digraph, NoMemory>
@@ -18,6 +18,7 @@ fn graph_with(alloc: Global, n: u32, ends: &[(u32, u32)]) -> Result<Digraph, NoM
 {
     let mut graph = Digraph::new(alloc);
     graph.add_vertices(n);
+    graph.reserve(ends.len() as u32)?;
     for pair in ends {
         let _: EdgeId = graph.add_edge(VertexId(pair.0), VertexId(pair.1))?;
     }
@@ -39,7 +40,7 @@ pub(crate) fn vertex_table(alloc: Global, nodes: &[Node]) -> Result<IdVec<Vertex
     requires { length nodes.now < 2 ^ 31 }
     ensures { IfOk result (λ ns. ns ≡ map node_name nodes.now) }
 {
-    let mut names = IdVec::new(alloc);
+    let mut names = IdVec::with_capacity(alloc, nodes.len() as u32)?;
     for node in nodes {
         let name = match node.id {
             Some(id) => id,
@@ -54,7 +55,7 @@ fn ids_table(alloc: Global, edges: &[Edge]) -> Result<IdVec<EdgeId, i64>, NoMemo
     requires { length edges.now < 2 ^ 31 }
     ensures { IfOk result (λ ns. ns ≡ edge_ids edges.now) }
 {
-    let mut names = IdVec::new(alloc);
+    let mut names = IdVec::with_capacity(alloc, edges.len() as u32)?;
     for edge in edges {
         let _: EdgeId = names.push(id_of(*edge))?;
     }
@@ -66,7 +67,7 @@ pub(crate) fn positions_table(alloc: Global, n: usize) -> Result<IdVec<EdgeId, i
     requires { n < 2 ^ 31 }
     ensures { IfOk result (λ ns. ns ≡ positions n) }
 {
-    let mut names = IdVec::new(alloc);
+    let mut names = IdVec::with_capacity(alloc, n as u32)?;
     for i in 0..n {
         let _: EdgeId = names.push(i as i64)?;
     }

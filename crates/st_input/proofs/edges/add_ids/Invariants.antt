@@ -1,6 +1,6 @@
 use Rattle.std.proofs.Common.{◌≡◌, [], take, drop, length}
 use Rattle.st_input.specs.Faults.{first_fault, id_fault, edge_ids}
-use Rattle.st_input.proofs.edges.ids_of.Given as goal
+use Rattle.st_input.proofs.edges.add_ids.Given as goal
 
 abbrev pub invariant-loop-edge : goal.invariant-loop-edge
 invariant-loop-edge l = record {

@@ -1,8 +1,0 @@
-use Rattle.std.proofs.Common.{◌≡◌, drop}
-use Rattle.gml_core.specs.Trees.{listed}
-use Rattle.gml_core.specs.Views.{view}
-use Rattle.st_input.specs.Used.{first}
-use Rattle.st_input.proofs.used.first_pair.Given as goal
-
-abbrev pub invariant-loop-i : goal.invariant-loop-i
-invariant-loop-i l = first l.key (drop l.i (listed (view l.tree))) ≡ first l.key (listed (view l.tree))
