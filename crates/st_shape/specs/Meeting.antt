@@ -6,16 +6,16 @@
 --   Share s t p    p is a point of both;  Meet s t  some point is
 -- Stated by points with fractions as coordinates; the code looks at signs of cross products.
 use Rattle.std.specs.Prelude.{◌≡◌, ℕ, ◌≤◌, ℤ, pos, ◌+ℤ◌, ◌-ℤ◌, ◌*ℤ◌, ◌≤ℤ◌}
+use Rattle.st_ids.specs.declared.limits.TheConstants.{MOST_COORDINATE}
 use Rattle.st_shape.specs.declared.point.Point.{Point}
 use Rattle.st_shape.specs.declared.point.Segment.{Segment}
-use Rattle.st_shape.specs.declared.point.TheConstants.{GREATEST}
 
 -- the coordinates are from 0 to the greatest of a picture
 pub record IsOnGrid (p : Point) : Type 0 where
   pub x_low : pos 0 ≤ℤ p.x
-  pub x_high : p.x ≤ℤ GREATEST
+  pub x_high : p.x ≤ℤ pos MOST_COORDINATE
   pub y_low : pos 0 ≤ℤ p.y
-  pub y_high : p.y ≤ℤ GREATEST
+  pub y_high : p.y ≤ℤ pos MOST_COORDINATE
 
 -- the cross product of q - p and r - p
 abbrev pub cross : Point → Point → Point → ℤ

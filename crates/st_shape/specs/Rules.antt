@@ -8,6 +8,7 @@ use Rattle.std.specs.List.{AllByRecursion}
 use Rattle.std.specs.Int.{w64}
 use Rattle.std.specs.Int.RustNames.{FitsSigned}
 use Rattle.std.specs.Prelude.{◌<ℤ◌}
+use Rattle.st_ids.specs.declared.limits.TheConstants.{MOST_COORDINATE}
 use Rattle.st_shape.specs.declared.point.Point.{Point}
 use Rattle.st_shape.specs.declared.item.Item.{Item}
 use Rattle.st_shape.specs.declared.item.Item.TheVariants.{Dot, Bar, Line, Rect, Face, Label}
@@ -43,7 +44,7 @@ IsItem frame item = HasNames item × FitsFrame frame item
 
 -- the corner of a frame lies on the grid
 abbrev pub IsFrame : Point → Type 0
-IsFrame frame = IsInside (point (pos 50000000) (pos 50000000)) frame
+IsFrame frame = IsInside (point (pos MOST_COORDINATE) (pos MOST_COORDINATE)) frame
 
 -- a form, the corner of the frame, and what lies in it
 pub record Drawing : Type 0 where

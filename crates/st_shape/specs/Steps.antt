@@ -7,6 +7,7 @@
 --   IsBox, NoBox, IsBoxOnGrid, ShareCells      boxes by their corners
 use Rattle.std.specs.Prelude.{◌≡◌, ℕ, ◌+◌, ◌-◌, ◌*◌, ◌<◌, ◌≤◌, ◌⊎◌, List, length, slice_get, Some, All, ℤ, pos, nat_abs, ◌+ℤ◌, ◌-ℤ◌, ◌*ℤ◌, ◌<ℤ◌, ◌≤ℤ◌}
 use Rattle.std.specs.Int.{int_min, int_max}
+use Rattle.st_ids.specs.declared.limits.TheConstants.{MOST_COORDINATE}
 use Rattle.st_shape.specs.declared.point.Point.{Point}
 use Rattle.st_shape.specs.declared.point.Segment.{Segment}
 use Rattle.st_shape.specs.declared.item.Item.{Item}
@@ -45,7 +46,7 @@ pub record AreOnGrid (s : Segment) : Type 0 where
 
 -- the place of a point of the grid, row after row from below, in each row from the left
 abbrev pub place : Point → ℕ
-place p = 50000001 * nat_abs p.y + nat_abs p.x
+place p = (MOST_COORDINATE + 1) * nat_abs p.y + nat_abs p.x
 
 -- a later point has a later place: so it is in each form where the segment rises
 pub record Climbs (s : Segment) : Type 0 where

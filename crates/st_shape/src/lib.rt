@@ -1,6 +1,6 @@
 //! Pictures on a grid: points, segments, where they meet, and what is wrong with a picture.
 //!
-//! The axes go right and up, and coordinates are whole numbers from 0 to 50,000,000. Nothing here rounds: `turn` and `meet`
+//! The axes go right and up, and coordinates are whole numbers from 0 to `GREATEST`. Nothing here rounds: `turn` and `meet`
 //! decide by the signs of products of whole numbers.
 #![tactic(auto)]
 

@@ -1,17 +1,18 @@
 //! Where two segments meet, by the signs of cross products.
 
 ghost use Rattle.std.specs.Prelude.{◌≡◌, ◌+◌, ◌<◌, ◌≤◌, ◌⊎◌, ◌↔◌, IsTrue, ℤ, pos, negsuc, ◌≤ℤ◌, ◌<ℤ◌, ◌-ℤ◌, ◌*ℤ◌};
+ghost use Rattle.st_ids.specs.declared.limits.TheConstants.{MOST_COORDINATE};
 ghost use Rattle.st_shape.specs.Meeting.{cross, IsOnGrid, Meet};
 ghost use Rattle.st_shape.specs.Steps.{IsOnRay, IsOverlap, IsParted, MeetBeyond, scalar};
 
-use crate::point::{GREATEST, Point, Segment, Turn};
+use crate::point::{Point, Segment, Turn};
 
 /// The product of two differences of coordinates.
 fn product(a: i64, b: i64) -> i64
     requires a_low { negsuc 49999999 ≤ℤ a }
-    requires a_high { a ≤ℤ GREATEST }
+    requires a_high { a ≤ℤ pos MOST_COORDINATE }
     requires b_low { negsuc 49999999 ≤ℤ b }
-    requires b_high { b ≤ℤ GREATEST }
+    requires b_high { b ≤ℤ pos MOST_COORDINATE }
     ensures value { result ≡ a *ℤ b }
     ensures low { negsuc 2499999999999999 ≤ℤ result }
     ensures high { result ≤ℤ pos 2500000000000000 }

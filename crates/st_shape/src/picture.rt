@@ -31,7 +31,7 @@ pub enum Fault {
 
 /// Items in a frame, whose low corner is (0, 0).
 ///
-/// The type keeps these rules: the coordinates of the frame are from 0 to 50,000,000, every point lies between (0, 0) and
+/// The type keeps these rules: the coordinates of the frame are from 0 to `GREATEST`, every point lies between (0, 0) and
 /// the frame, `from` is at most `to`, a box is wider and higher than 0, a label has 1 to 80 bytes from 32 to 126, and there
 /// are fewer than 2^31 items. A contract sees the form, the frame and the list of items.
 #[derive(Drop)]
@@ -75,6 +75,19 @@ impl Picture {
         ensures err { OnErr result (self.new ≡ self.old) }
     {
         match self.items.push(item) {
+            Ok(()) => Ok(()),
+            Err(_) => Err(NoMemory),
+        }
+    }
+
+    /// Makes room for so many more items, and for no others. The picture stays as it is.
+    ///
+    /// Errors: `NoMemory`.
+    /// Cost: one block for all items, to which those that are there move.
+    pub fn reserve(&mut self, more: u32) -> Result<(), NoMemory>
+        ensures { self.new ≡ self.old }
+    {
+        match self.items.reserve_exact(more as usize) {
             Ok(()) => Ok(()),
             Err(_) => Err(NoMemory),
         }

@@ -3,11 +3,12 @@ ghost use Rattle.std.specs.Prelude.{◌≡◌, [], ◌∷◌, ◌≤◌, ◌↔�
 ghost use Rattle.st_shape.specs.Inside.{IsInside};
 
 use smallvec::SmallVec;
+use st_ids::limits::MOST_COORDINATE;
 use std::alloc::Global;
 use std::marker::Model;
 
 /// The greatest coordinate of a picture.
-pub const GREATEST: i64 = 50_000_000;
+pub const GREATEST: i64 = MOST_COORDINATE as i64;
 
 /// A point of the grid.
 #[derive(Clone, Copy, Debug, Default, PartialEq, Eq)]
