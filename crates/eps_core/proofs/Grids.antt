@@ -1,7 +1,7 @@
 -- What a frame holds can be printed, and lines one after another.
 use Rattle.std.proofs.lemmas.List.{take_more, take-append-drop, take_rest}
 use Rattle.std.specs.Prelude.{codes}
-use Rattle.std.proofs.Common.{◌-◌, ◌<◌, ◌≤◌, ◌+◌, length, get_or, take, drop, ◌≡◌, ℕ, List, [], ◌∷◌, ◌++◌, ap, ◌∙◌, sym, refl, arith, append_assoc}
+use Rattle.std.proofs.Common.{◌-◌, ◌<◌, ◌≤◌, ◌+◌, length, get_or, take, drop, ◌≡◌, ℕ, List, [], ◌∷◌, ◌++◌, ap, ◌∙◌, sym, refl, arith, append_assoc, append-nil}
 use Rattle.std.proofs.lemmas.Int.{ints}
 use Rattle.std.specs.List.{AllByRecursion}
 use Rattle.st_shape.specs.declared.point.Point.{Point}
@@ -71,3 +71,7 @@ ended_split xs x h e = ended_first xs x h e ∙ ap (λ l. (x ++ 10 ∷ []) ++ en
 
 pub text_parts_first : (d : Drawing) → ended (front_lines d.form d.frame) ++ (ended (item_lines d.items) ++ ended (codes "%%EOF" ∷ [])) ≡ text d
 text_parts_first d = sym (append_assoc (ended (front_lines d.form d.frame)) (ended (item_lines d.items)) (ended (codes "%%EOF" ∷ []))) ∙ text_parts d
+
+-- the two lines of an item
+pub two_ended : (x y : List ℕ) → (x ++ 10 ∷ []) ++ (y ++ 10 ∷ []) ≡ ended (x ∷ y ∷ [])
+two_ended x y = ap (λ l. (x ++ 10 ∷ []) ++ l) (sym (append-nil (y ++ 10 ∷ [])))

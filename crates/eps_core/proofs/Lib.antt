@@ -1,4 +1,5 @@
 pub mod BadLines
+pub mod Bare
 pub mod Cuts
 pub mod Decodes
 pub mod Endings
@@ -11,4 +12,3 @@ pub mod Pictures
 pub mod Plain
 pub mod Readings
 pub mod Short
-pub mod Writes

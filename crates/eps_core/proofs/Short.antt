@@ -7,6 +7,7 @@ use Rattle.std.specs.List.{AllByRecursion}
 use Rattle.std.specs.Fmt.{decimal, signed_decimal}
 use Rattle.std.specs.Int.{w64}
 use Rattle.std.specs.Int.RustNames.{FitsSigned}
+use Rattle.st_ids.specs.declared.limits.TheConstants.{MOST_COORDINATE}
 use Rattle.st_shape.specs.declared.point.Point.{Point}
 use Rattle.st_shape.specs.declared.item.Item.{Item}
 use Rattle.st_shape.specs.declared.item.Item.TheVariants.{Dot, Bar, Line, Rect, Face, Label}
@@ -35,7 +36,7 @@ name_length : (z : ℤ) → FitsSigned w64 z → length (signed_decimal z) ≤ 2
 name_length (pos n) h = length_signed_le 19 (pos n) (omega (arith, h.sfits)) (omega (arith, h.sfits))
 name_length (negsuc n) h = length_signed_le 19 (negsuc n) (omega (arith, h.sfits)) (omega (arith, h.sfits))
 
-put_length : (m : ℕ) (g : ℤ) → m ≤ 100 → pos 0 ≤ℤ g → g ≤ℤ pos 50000000 → length (put m g) ≤ 11
+put_length : (m : ℕ) (g : ℤ) → m ≤ 100 → pos 0 ≤ℤ g → g ≤ℤ pos MOST_COORDINATE → length (put m g) ≤ 11
 put_length m (pos n) s lo hi =
     let small : n ≤ 50000000 = omega (arith, ints, hi) in
     length_signed_le 10 (pos (24 * n + m)) (omega (arith, small, s)) (omega (arith, small, s))

@@ -4,12 +4,13 @@
 --   AreOnGrid ps  all of them are
 use Rattle.std.specs.Prelude.{pos, List}
 use Rattle.std.specs.List.{AllByRecursion}
+use Rattle.st_ids.specs.declared.limits.TheConstants.{MOST_COORDINATE}
 use Rattle.st_shape.specs.declared.point.Point.{Point}
 use Rattle.st_shape.specs.Inside.{IsInside, point}
 
 -- the corner of the largest frame
 abbrev pub corner : Point
-corner = point (pos 50000000) (pos 50000000)
+corner = point (pos MOST_COORDINATE) (pos MOST_COORDINATE)
 
 -- within the largest frame
 abbrev pub IsOnGrid : Point → Type 0

@@ -3,4 +3,3 @@ pub mod Grid
 pub mod Meaning
 pub mod Reading
 pub mod Text
-pub mod Writing

@@ -1,6 +1,7 @@
 //! A line that is being built, in a fixed buffer.
 ghost use Rattle.std.specs.Prelude.{◌≡◌, ◌+◌, ◌≤◌, ℤ, pos, ◌≤ℤ◌, [], ◌∷◌, ◌++◌, length};
 ghost use Rattle.std.specs.Fmt.{decimal, signed_decimal};
+ghost use Rattle.st_ids.specs.declared.limits.TheConstants.{MOST_COORDINATE};
 ghost use Rattle.eps_core.specs.Text.{at, beside, printed};
 
 use itoa::Buffer;
@@ -37,6 +38,16 @@ impl Line {
         }
     }
 
+    /// Begins again with these bytes.
+    #[inline(always)]
+    pub fn start(&mut self, piece: &[u8])
+        requires { length piece.now ≤ 256 }
+        ensures { self.new ≡ piece.now }
+    {
+        self.len = 0;
+        self.put(piece);
+    }
+
     /// The bytes so far.
     pub fn bytes(&self) -> &[u8]
         ensures { result.now ≡ self.now }
@@ -45,6 +56,7 @@ impl Line {
     }
 
     /// Puts bytes at the end.
+    #[inline(always)]
     pub fn put(&mut self, piece: &[u8])
         requires { length self.old + length piece.now ≤ 256 }
         ensures { self.new ≡ self.old ++ piece.now }
@@ -55,6 +67,7 @@ impl Line {
     }
 
     /// Puts a space and a word at the end.
+    #[inline(always)]
     pub fn word(&mut self, piece: &[u8])
         requires { length self.old + length piece.now ≤ 255 }
         ensures text { self.new ≡ self.old ++ 32 ∷ piece.now }
@@ -74,23 +87,22 @@ impl Line {
         self.word(buffer.format(n).as_bytes());
     }
 
-    /// Begins the line with a coordinate of a label.
+    /// Begins again with a coordinate of a label.
     pub fn start_beside(&mut self, g: i64)
-        requires empty { self.old ≡ [] }
         requires low { pos 0 ≤ℤ g }
-        requires high { g ≤ℤ pos 50000000 }
+        requires high { g ≤ℤ pos MOST_COORDINATE }
         ensures text { self.new ≡ beside g }
         ensures len { length self.new ≤ 20 }
     {
         let mut buffer = Buffer::new();
-        self.put(buffer.format(24 * g + 42).as_bytes());
+        self.start(buffer.format(24 * g + 42).as_bytes());
     }
 
     /// Puts a space and a side of the bounding box at the end.
     pub fn edge(&mut self, g: i64)
         requires room { length self.old + 21 ≤ 256 }
         requires low { pos 0 ≤ℤ g }
-        requires high { g ≤ℤ pos 50000000 }
+        requires high { g ≤ℤ pos MOST_COORDINATE }
         ensures text { self.new ≡ self.old ++ 32 ∷ signed_decimal (printed 72 g) }
         ensures len { length self.new ≤ length self.old + 21 }
     {
@@ -101,7 +113,7 @@ impl Line {
     pub fn beside(&mut self, g: i64)
         requires room { length self.old + 21 ≤ 256 }
         requires low { pos 0 ≤ℤ g }
-        requires high { g ≤ℤ pos 50000000 }
+        requires high { g ≤ℤ pos MOST_COORDINATE }
         ensures text { self.new ≡ self.old ++ 32 ∷ beside g }
         ensures len { length self.new ≤ length self.old + 21 }
     {
@@ -112,7 +124,7 @@ impl Line {
     pub fn at(&mut self, g: i64)
         requires room { length self.old + 21 ≤ 256 }
         requires low { pos 0 ≤ℤ g }
-        requires high { g ≤ℤ pos 50000000 }
+        requires high { g ≤ℤ pos MOST_COORDINATE }
         ensures text { self.new ≡ self.old ++ 32 ∷ at g }
         ensures len { length self.new ≤ length self.old + 21 }
     {

@@ -1,5 +1,5 @@
 //! The lines of a text: those before the items, the two of an item, the last one.
-ghost use Rattle.std.specs.Prelude.{◌≡◌, ◌+◌, ◌*◌, ◌<◌, ◌≤◌, ◌^◌, [], ◌∷◌, ◌++◌, length, pos, codes, List, ℕ};
+ghost use Rattle.std.specs.Prelude.{◌≡◌, ◌==◌, ◌||◌, IsTrue, ◌+◌, ◌*◌, ◌<◌, ◌≤◌, ◌^◌, [], ◌∷◌, ◌++◌, length, pos, codes, List, ℕ};
 ghost use Rattle.std.specs.List.{AllByRecursion};
 ghost use Rattle.std.specs.Fmt.{signed_decimal};
 ghost use Rattle.st_shape.specs.Inside.{IsInside, point};
@@ -21,55 +21,55 @@ fn new_line(start: &[u8]) -> Line
 }
 
 // The first line of an item with one name.
-fn one_name(start: &[u8], name: i64) -> Line
+#[inline(always)]
+fn one_name(line: &mut Line, start: &[u8], name: i64)
     requires { length start.now ≡ 2 }
-    ensures text { result ≡ spaced start.now (signed_decimal name ∷ []) }
-    ensures short { length result ≤ 255 }
+    ensures text { line.new ≡ spaced start.now (signed_decimal name ∷ []) }
+    ensures short { length line.new ≤ 255 }
 {
-    let mut line = new_line(start);
+    line.start(start);
     line.number(name);
-    line
 }
 
 // The first line of an edge: its name and those of its tail and head.
-fn three_names(name: i64, tail: i64, head: i64) -> Line
-    ensures text { result ≡ spaced (codes "%e") (signed_decimal name ∷ signed_decimal tail ∷ signed_decimal head ∷ []) }
-    ensures short { length result ≤ 255 }
+fn three_names(line: &mut Line, name: i64, tail: i64, head: i64)
+    ensures text { line.new ≡ spaced (codes "%e") (signed_decimal name ∷ signed_decimal tail ∷ signed_decimal head ∷ []) }
+    ensures short { length line.new ≤ 255 }
 {
-    let mut line = new_line(b"%e");
+    line.start(b"%e");
     line.number(name);
     line.number(tail);
     line.number(head);
-    line
 }
 
-/// The first line of an item.
-pub fn name_line(item: &Item) -> Line
-    ensures text { result ≡ name_text item.now }
+/// Builds the first line of an item, in place of what the line was.
+pub fn name_line(line: &mut Line, item: &Item)
+    ensures text { line.new ≡ name_text item.now }
     ensures names { HasNames item.now }
-    ensures short { length result ≤ 255 }
+    ensures short { length line.new ≤ 255 }
 {
     match item {
-        Item::Dot { name, .. } => one_name(b"%v", *name),
-        Item::Bar { name, .. } => one_name(b"%v", *name),
+        Item::Dot { name, .. } => one_name(line, b"%v", *name),
+        Item::Bar { name, .. } => one_name(line, b"%v", *name),
         Item::Line {
             name,
             tail,
             head,
             ..
-        } => three_names(*name, *tail, *head),
+        } => three_names(line, *name, *tail, *head),
         Item::Rect {
             name,
             tail,
             head,
             ..
-        } => three_names(*name, *tail, *head),
-        Item::Face { number, .. } => one_name(b"%f", *number as i64),
-        Item::Label { name, .. } => one_name(b"%l", *name),
+        } => three_names(line, *name, *tail, *head),
+        Item::Face { number, .. } => one_name(line, b"%f", *number as i64),
+        Item::Label { name, .. } => one_name(line, b"%l", *name),
     }
 }
 
 // Puts a point at the end.
+#[inline(always)]
 fn place(line: &mut Line, p: Point)
     requires room { length line.old + 42 ≤ 256 }
     requires on_grid { IsOnGrid p }
@@ -81,6 +81,7 @@ fn place(line: &mut Line, p: Point)
 }
 
 // Puts a point and a command at the end.
+#[inline(always)]
 fn step(line: &mut Line, p: Point, command: &[u8])
     requires room { length line.old + 52 ≤ 256 }
     requires command { length command.now ≤ 9 }
@@ -93,33 +94,31 @@ fn step(line: &mut Line, p: Point, command: &[u8])
 }
 
 // The second line of a dot.
-fn dot_line(p: Point) -> Line
+fn dot_line(line: &mut Line, p: Point)
     requires { IsOnGrid p }
-    ensures text { result ≡ spaced (codes "newpath") (at p.x ∷ at p.y ∷ codes "4" ∷ codes "0" ∷ codes "360" ∷ codes "arc" ∷ codes "fill" ∷ []) }
-    ensures short { length result ≤ 255 }
+    ensures text { line.new ≡ spaced (codes "newpath") (at p.x ∷ at p.y ∷ codes "4" ∷ codes "0" ∷ codes "360" ∷ codes "arc" ∷ codes "fill" ∷ []) }
+    ensures short { length line.new ≤ 255 }
 {
-    let mut line = new_line(b"newpath");
-    place(&mut line, p);
+    line.start(b"newpath");
+    place(line, p);
     line.word(b"4");
     line.word(b"0");
     line.word(b"360");
     line.word(b"arc");
     line.word(b"fill");
-    line
 }
 
 // The second line of a bar or a face, which is a line between two points.
-fn pair_line(a: Point, b: Point) -> Line
+fn pair_line(line: &mut Line, a: Point, b: Point)
     requires a { IsOnGrid a }
     requires b { IsOnGrid b }
-    ensures text { result ≡ spaced (codes "newpath") (at a.x ∷ at a.y ∷ codes "moveto" ∷ at b.x ∷ at b.y ∷ codes "lineto" ∷ codes "stroke" ∷ []) }
-    ensures short { length result ≤ 255 }
+    ensures text { line.new ≡ spaced (codes "newpath") (at a.x ∷ at a.y ∷ codes "moveto" ∷ at b.x ∷ at b.y ∷ codes "lineto" ∷ codes "stroke" ∷ []) }
+    ensures short { length line.new ≤ 255 }
 {
-    let mut line = new_line(b"newpath");
-    step(&mut line, a, b"moveto");
-    step(&mut line, b, b"lineto");
+    line.start(b"newpath");
+    step(line, a, b"moveto");
+    step(line, b, b"lineto");
     line.word(b"stroke");
-    line
 }
 
 // Puts the further points of a line, and its end. It calls itself once for each point, of which there are at most 3.
@@ -139,41 +138,40 @@ fn go_on(line: &mut Line, points: &[Point])
 }
 
 // The second line of an edge that is drawn through points.
-fn path_line(points: &[Point]) -> Line
+fn path_line(line: &mut Line, points: &[Point])
     requires some { 2 ≤ length points.now }
     requires few { length points.now ≤ 4 }
     requires on_grid { AreOnGrid points.now }
-    ensures text { result ≡ spaced (codes "newpath") (line_words points.now) }
-    ensures short { length result ≤ 255 }
+    ensures text { line.new ≡ spaced (codes "newpath") (line_words points.now) }
+    ensures short { length line.new ≤ 255 }
 {
-    let mut line = new_line(b"newpath");
+    line.start(b"newpath");
     if let [p, rest @ ..] = points {
-        step(&mut line, *p, b"moveto");
-        go_on(&mut line, rest);
+        step(line, *p, b"moveto");
+        go_on(line, rest);
     }
-    line
 }
 
 // The second line of an edge that is drawn as a box.
-fn box_line(low: Point, high: Point) -> Line
+fn box_line(line: &mut Line, low: Point, high: Point)
     requires low { IsOnGrid low }
     requires high { IsOnGrid high }
-    ensures text { result ≡ mark_text (Item.Rect (pos 0) (pos 0) (pos 0) low high) }
-    ensures short { length result ≤ 255 }
+    ensures text { line.new ≡ mark_text (Item.Rect (pos 0) (pos 0) (pos 0) low high) }
+    ensures short { length line.new ≤ 255 }
 {
-    let mut line = new_line(b"newpath");
-    step(&mut line, low, b"moveto");
+    line.start(b"newpath");
+    step(line, low, b"moveto");
     step(
-        &mut line,
+        line,
         Point {
             x: high.x,
             y: low.y,
         },
         b"lineto",
     );
-    step(&mut line, high, b"lineto");
+    step(line, high, b"lineto");
     step(
-        &mut line,
+        line,
         Point {
             x: low.x,
             y: high.y,
@@ -182,7 +180,26 @@ fn box_line(low: Point, high: Point) -> Line
     );
     line.word(b"closepath");
     line.word(b"stroke");
-    line
+}
+
+// Whether no byte needs a backslash. It may be false of a text that needs none.
+fn is_bare(text: &[u8]) -> bool
+    ensures { IsTrue result → escaped text.now ≡ text.now }
+{
+    for b in text {
+        if needs_backslash(*b) {
+            return false;
+        }
+    }
+    true
+}
+
+// Whether this is a bracket or a backslash.
+#[inline(always)]
+fn needs_backslash(b: u8) -> bool
+    ensures { result ≡ (b == 40 || b == 41 || b == 92) }
+{
+    b == b'(' || b == b')' || b == b'\\'
 }
 
 // Puts a text, with a backslash before brackets and backslashes. It calls itself once for each byte, of which there are at
@@ -195,12 +212,25 @@ fn escape(line: &mut Line, text: &[u8])
     match text {
         [] => {}
         [b, rest @ ..] => {
-            if *b == b'(' || *b == b')' || *b == b'\\' {
+            if needs_backslash(*b) {
                 line.put(b"\\");
             }
             line.put(&[*b]);
             escape(line, rest);
         }
+    }
+}
+
+// Puts a text, whole where no byte needs a backslash.
+fn put_label(line: &mut Line, text: &[u8])
+    requires { length line.old + 2 * length text.now ≤ 256 }
+    ensures text { line.new ≡ line.old ++ escaped text.now }
+    ensures len { length line.new ≤ length line.old + 2 * length text.now }
+{
+    if is_bare(text) {
+        line.put(text);
+    } else {
+        escape(line, text);
     }
 }
 
@@ -211,43 +241,41 @@ fn bracket(line: &mut Line, text: &[u8])
     ensures len { length line.new ≤ length line.old + (2 * length text.now + 3) }
 {
     line.word(b"(");
-    escape(line, text);
+    put_label(line, text);
     line.put(b")");
 }
 
 // The second line of a label.
-fn label_line(p: Point, text: &[u8]) -> Line
+fn label_line(line: &mut Line, p: Point, text: &[u8])
     requires on_grid { IsOnGrid p }
     requires few { length text.now ≤ 80 }
-    ensures text { result ≡ mark_text (Item.Label (pos 0) p text.now) }
-    ensures short { length result ≤ 255 }
+    ensures text { line.new ≡ mark_text (Item.Label (pos 0) p text.now) }
+    ensures short { length line.new ≤ 255 }
 {
-    let mut line = Line::new();
     line.start_beside(p.x);
     line.beside(p.y);
     line.word(b"moveto");
-    bracket(&mut line, text);
+    bracket(line, text);
     line.word(b"show");
-    line
 }
 
-/// The second line of an item.
-pub fn mark_line(item: &Item) -> Line
+/// Builds the second line of an item, in place of what the line was.
+pub fn mark_line(line: &mut Line, item: &Item)
     requires { FitsFrame corner item.now }
-    ensures text { result ≡ mark_text item.now }
-    ensures short { length result ≤ 255 }
+    ensures text { line.new ≡ mark_text item.now }
+    ensures short { length line.new ≤ 255 }
 {
     match item {
-        Item::Dot { p, .. } => dot_line(*p),
+        Item::Dot { p, .. } => dot_line(line, *p),
         Item::Bar { y, from, to, .. } => {
-            pair_line(Point { x: *from, y: *y }, Point { x: *to, y: *y })
+            pair_line(line, Point { x: *from, y: *y }, Point { x: *to, y: *y })
         }
-        Item::Line { points, .. } => path_line(points.items()),
-        Item::Rect { low, high, .. } => box_line(*low, *high),
+        Item::Line { points, .. } => path_line(line, points.items()),
+        Item::Rect { low, high, .. } => box_line(line, *low, *high),
         Item::Face { x, from, to, .. } => {
-            pair_line(Point { x: *x, y: *from }, Point { x: *x, y: *to })
+            pair_line(line, Point { x: *x, y: *from }, Point { x: *x, y: *to })
         }
-        Item::Label { p, text, .. } => label_line(*p, text.bytes()),
+        Item::Label { p, text, .. } => label_line(line, *p, text.bytes()),
     }
 }
 

@@ -12,9 +12,11 @@ ghost use Rattle.eps_core.specs.Text.{mark_line as mark_text, name_line as name_
 use crate::cutting::{first_line, is_line, match_lines, next_line};
 use crate::decoding::decode;
 use crate::fault::EpsFault;
+use crate::line::Line;
 use crate::lines::{front, mark_line, name_line};
 use crate::words::{behind, past_step, place};
 use st_ids::NoMemory;
+use st_ids::limits::MOST_COORDINATE;
 use st_shape::{Form, Item, Picture, Point};
 use std::alloc::Global;
 
@@ -32,8 +34,8 @@ fn frame_in(line: &[u8]) -> Point
     ensures value { IsFrame (frame_from line.now) → result ≡ frame_from line.now }
 {
     let corner = Point {
-        x: 50_000_000,
-        y: 50_000_000,
+        x: i64::from(MOST_COORDINATE),
+        y: i64::from(MOST_COORDINATE),
     };
     let frame = place(72, past_step(line));
     if frame.is_inside(corner) {
@@ -84,7 +86,9 @@ fn named_item(alloc: Global, name: &[u8], mark: &[u8]) -> Result<Item, PairFault
         Ok(None) => return Err(PairFault::First),
         Err(NoMemory) => return Err(PairFault::NoMemory),
     };
-    if !is_line(&name_line(&item), name) {
+    let mut line = Line::new();
+    name_line(&mut line, &item);
+    if !is_line(&line, name) {
         return Err(PairFault::First);
     }
     Ok(item)
@@ -95,7 +99,12 @@ fn fitting_mark(frame: Point, item: &Item, mark: &[u8]) -> bool
     requires { IsFrame frame }
     ensures { IsTrue result ↔ (FitsFrame frame item.now × (mark.now ≡ mark_text item.now)) }
 {
-    item.fits(frame) && is_line(&mark_line(item), mark)
+    if !item.fits(frame) {
+        return false;
+    }
+    let mut line = Line::new();
+    mark_line(&mut line, item);
+    is_line(&line, mark)
 }
 
 // The item of this first line and of the line that is next, and what is behind them.

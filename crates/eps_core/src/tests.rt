@@ -142,7 +142,7 @@ fn each_item_has_its_two_lines(rt: HostRuntime) -> Result<(), Fail> {
 #[test]
 fn a_fault_leaves_a_front(rt: HostRuntime) -> Result<(), Fail> {
     let alloc = rt.alloc();
-    let mut sink = MemSink::new(alloc, 300, 0, &[2])?;
+    let mut sink = MemSink::new(alloc, 300, 24, &[2])?;
     assert_eq!(rt; write_eps(&mut sink, &one_edge(alloc)?), Err(Failed));
     assert_eq!(rt; sink.taken(), b"%!PS-Adobe-3.0 EPSF-3.0\n".as_slice());
     assert_eq!(rt; sink.faults(), 1);
