@@ -55,10 +55,10 @@ pub next_is : (g : Embedded) (d v : ℕ) → at g d ≡ v → next g d ≡ cycli
 unfolding next
 next_is g d v e = ap (λ u. after (get_or (order g u) 0 d) (order g u) d) e
 
-after_yes : (f x d : ℕ) (xs : List ℕ) → x ≡ d → after f (x ∷ xs) d ≡ get_or xs 0 f
+pub after_yes : (f x d : ℕ) (xs : List ℕ) → x ≡ d → after f (x ∷ xs) d ≡ get_or xs 0 f
 after_yes f x d xs e = cond-true (eqb x d) (get_or xs 0 f) (after f xs d) (eq-eqb x d e)
 
-after_no : (f x d : ℕ) (xs : List ℕ) → x ≢ d → after f (x ∷ xs) d ≡ after f xs d
+pub after_no : (f x d : ℕ) (xs : List ℕ) → x ≢ d → after f (x ∷ xs) d ≡ after f xs d
 after_no f x d xs n = cond-false (eqb x d) (get_or xs 0 f) (after f xs d) (ne_eqb x d n)
 
 -- ---- entries renumbered

@@ -11,8 +11,10 @@ use Rattle.st_ids.specs.Graph.{Graph, HasEnds, tail_of, head_of}
 use Rattle.st_map.specs.Orbits.{Permutes}
 use Rattle.st_map.specs.Embedded.{Embedded, HasOrders, IsRotation, at, order, darts, next}
 use Rattle.st_map.specs.Orders.{HasEdges, HasNoLoop, end_at, ends_at, embed, order_at}
-use Rattle.st_map.specs.Tables.{is_at, AreDegrees, AreEdges, AreFirsts, AreListsLinked, IsBack, IsLawful, IsListLinked, IsMap, IsTableOf, place_after, ring, ring_at, rotation_of}
+use Rattle.st_map.specs.Links.{AreSameFirsts}
+use Rattle.st_map.specs.Tables.{is_at, AreDegrees, AreEdges, AreFirsts, AreListsLinked, IsBack, IsLawful, IsListLinked, IsMap, IsTableOf, no_first, place_after, ring, ring_at, rotation_of, tables}
 use Rattle.st_map.proofs.EndLemmas.{even_or_odd, at-tail, at-head, at_below}
+use Rattle.st_map.proofs.OrbitLemmas.{before}
 use Rattle.st_map.proofs.RotationLemmas.{next-at, next-last, next-permutes}
 use Rattle.st_map.proofs.OrderLemmas.{at_true, true_at, degree_is, order_size}
 
@@ -89,6 +91,17 @@ lists_more n ends orders lawful v old table lv h len r = record {
   ];
 }
 
+-- ---- first ends read again
+pub firsts_again : (n : ℕ) (ends : List (ℕ × ℕ)) (orders : List (List ℕ)) (first again : List ℕ) → ((v : ℕ) → v < n → AreEdges ends (order_at orders v))
+    → length ends < 2 ^ 30 → AreFirsts n ends orders first → AreSameFirsts (2 * length ends) first again → AreFirsts n ends orders again
+firsts_again n ends orders first again listed few f s = record {
+  size = s.size ∙ f.size;
+  each = λ v l some.
+      let q : get_or first v 0 ≡ end_at ends v (get_or (order_at orders v) 0 0) = f.each v l some in
+      s.each v (omega (arith, f.size)) (omega (arith, end_below ends v (get_or (order_at orders v) 0 0) (listed v l 0 some))) ∙ q;
+  none = λ v l z. (let q : get_or first v 0 ≡ no_first = f.none v l z in s.none v (omega (arith, f.size)) (omega arith));
+}
+
 -- ---- a ring that follows a list is the list
 pub ring-is : (cw ds : List ℕ) (d : ℕ) → (0 < length ds → d ≡ get_or ds 0 0) → ((j : ℕ) → suc j < length ds → get_or cw (get_or ds j 0) 0 ≡ get_or ds (suc j) 0)
     → ring cw (length ds) d ≡ ds
@@ -126,6 +139,12 @@ permutes_too n f h perm same = record {
   stays = λ d l. subst (λ z. z < n) (sym (same d l)) (perm.stays d l);
   apart = λ c d lc ld q. perm.apart c d lc ld (sym (same c lc) ∙ q ∙ same d ld);
 }
+
+-- a table that leads back stays within
+pub back_in : (cw ccw : List ℕ) → Permutes (length cw) (λ d. get_or cw d 0) → IsBack cw ccw → (d : ℕ) → d < length cw → get_or ccw d 0 < length cw
+back_in cw ccw perm back d l =
+    let r = before (length cw) (λ d. get_or cw d 0) perm d l in
+    subst (λ z. z < length cw) (sym (ap (λ z. get_or ccw z 0) (sym r.2) ∙ back.each r.0 r.1)) r.1
 
 module _ (g : Graph) (orders : List (List ℕ)) (within : HasEnds g) (no_loop : HasNoLoop g)
     (listed : (v : ℕ) → v < g.vertices → AreEdges g.ends (order_at orders v)) (lawful : (v : ℕ) → v < g.vertices → IsLawful g.ends v (order_at orders v)) where
@@ -234,9 +253,9 @@ module _ (g : Graph) (orders : List (List ℕ)) (within : HasEnds g) (no_loop : 
       ∙ ap (λ z. end_at g.ends v (get_or (order_at orders v) z 0)) (place_inner (length (order_at orders v)) j (omega arith))
       ∙ sym (at_row (suc j) (omega arith)))
 
-  pub rotation_is : (first degree cw : List ℕ) → AreFirsts g.vertices g.ends orders first → AreDegrees g.vertices g.ends (length g.ends) degree
-      → AreListsLinked g.ends orders g.vertices cw → rotation_of g.vertices g.ends first degree cw ≡ embed g orders
-  rotation_is first degree cw f d c =
+  pub rotation_is : (first degree cw ccw : List ℕ) → AreFirsts g.vertices g.ends orders first → AreDegrees g.vertices g.ends (length g.ends) degree
+      → AreListsLinked g.ends orders g.vertices cw → rotation_of (tables g.vertices g.ends first degree cw ccw) ≡ embed g orders
+  rotation_is first degree cw ccw f d c =
       ap (λ (os : List (List ℕ)). let r : Embedded = record { vertices = g.vertices; ends = g.ends; orders = os } in r)
       (fill_by_all (ends_at g.ends orders) (map (ring_at first degree cw) (range_with_len 0 g.vertices)) g.vertices []
       (length-map-range_with_len (ring_at first degree cw) 0 g.vertices)
@@ -244,9 +263,9 @@ module _ (g : Graph) (orders : List (List ℕ)) (within : HasEnds g) (no_loop : 
 
   pub is_map : (first degree cw ccw : List ℕ) → AreFirsts g.vertices g.ends orders first → AreDegrees g.vertices g.ends (length g.ends) degree
       → AreListsLinked g.ends orders g.vertices cw → IsBack cw ccw → g.vertices < 2 ^ 30 → length g.ends < 2 ^ 30
-      → IsMap g.vertices g.ends first degree cw ccw
+      → IsMap (tables g.vertices g.ends first degree cw ccw)
   is_map first degree cw ccw f d c back fv fe =
-      let eq : embed g orders ≡ rotation_of g.vertices g.ends first degree cw = sym (rotation_is first degree cw f d c) in
+      let eq : embed g orders ≡ rotation_of (tables g.vertices g.ends first degree cw ccw) = sym (rotation_is first degree cw ccw f d c) in
       record {
         vertices_few = fv;
         edges_few = fe;
@@ -255,4 +274,6 @@ module _ (g : Graph) (orders : List (List ℕ)) (within : HasEnds g) (no_loop : 
         degrees = d.size;
         clockwise = subst (λ (r : Embedded). IsTableOf (2 * length g.ends) (next r) cw) eq (table_of cw c);
         counter = back;
+        no_loop = no_loop;
+        empty = λ v lv z. f.none v lv (order_size g.ends v (order_at orders v) (listed v lv) (lawful v lv) ∙ sym (d.each v lv ∙ degree_is g.ends v no_loop) ∙ z);
       }

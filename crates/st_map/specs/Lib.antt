@@ -3,6 +3,9 @@ pub mod Orbits
 pub mod Embedded
 pub mod Orders
 pub mod Split
+pub mod Insert
+pub mod Remove
 pub mod Laws
+pub mod Links
 pub mod Tables
 pub mod Fault

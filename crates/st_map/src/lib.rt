@@ -5,11 +5,13 @@
 //! of an end is, and what the faces are.
 #![tactic(auto)]
 
+mod digraph;
 pub mod laws;
 mod links;
+mod listing;
 mod map;
 mod orders;
-mod splitting;
+mod room;
 #[cfg(test)]
 mod tests;
 

@@ -1,14 +1,17 @@
 //! The map: tables by number, seen as vertices, edges and clockwise lists of ends.
-ghost use Rattle.std.specs.Prelude.{◌≡◌, ◌≢◌, ◌↔◌, ◌+◌, ◌*◌, ◌<◌, ◌≤◌, ◌^◌, ℕ, length, slice_get, IfOk, IfErr, IfSome, IsNone, MatchOption, OnErr, OnOk, Some};
+ghost use Rattle.std.specs.Prelude.{[], ◌≡◌, ◌≢◌, ◌↔◌, ◌+◌, ◌*◌, ◌<◌, ◌≤◌, ◌^◌, ℕ, length, slice_get, IfOk, IfErr, IfSome, IsNone, MatchOption, OnErr, OnOk, Some};
 ghost use Rattle.st_ids.specs.Graph.{tail_of, head_of};
 ghost use Rattle.st_map.specs.Embedded.{darts, edges, tail, head, order, at, next, IsRotation};
 ghost use Rattle.st_map.specs.Fault.{IsMapFault};
+ghost use Rattle.st_map.specs.Insert.{insert};
+ghost use Rattle.st_map.specs.Remove.{removed};
 ghost use Rattle.st_map.specs.Split.{split};
 ghost use Rattle.st_map.specs.Orders.{HasEdges, HasNoLoop, IsEdgeAt, IsOrderAt, embed, order_at};
 
-use crate::links::{first_ends, lead_back, link_lists};
+use crate::links::Links;
+use crate::listing::{first_ends, lead_back, link_lists};
 use crate::orders::{MapFault, check_orders, degrees};
-use crate::splitting::{make_room, renumber, split_links};
+use crate::room::make_room;
 use st_ids::{Dart, Digraph, EdgeId, EdgeList, IdVec, NoMemory, VertexId};
 use std::alloc::{AllocError, Global};
 use std::marker::Model;
@@ -16,29 +19,28 @@ use std::marker::Model;
 /// A digraph with the clockwise list of the edge ends at each vertex, which is a permutation of the ends there. A
 /// contract sees the record `MapValue`.
 ///
-/// Memory: 24 bytes an edge and 8 a vertex.
+/// Memory: 104 bytes an edge and 20 a vertex.
 #[derive(Drop)]
 pub struct Map {
     vertices: u32,
     ends: Vec<(u32, u32)>,
-    first: Vec<u32>,
     degree: Vec<u32>,
-    cw: Vec<u32>,
-    ccw: Vec<u32>,
+    links: Links,
     spare: u32,
 }
 
 impl Model for Map {
     ghost use Rattle.std.specs.Prelude.{length, vec_capacity};
     ghost use Rattle.st_map.specs.Embedded.{MapValue};
-    ghost use Rattle.st_map.specs.Tables.{HasRoom, IsMap, rotation_of};
+    ghost use Rattle.st_map.specs.Links.{HasRoom};
+    ghost use Rattle.st_map.specs.Tables.{IsMap, rotation_of, tables};
 
     ghost Value = { MapValue };
 
-    ghost view = { λ a. record { graph = rotation_of a.vertices a.ends.items a.first.items a.degree.items a.cw.items; spare = a.spare } };
+    ghost view = { λ a. record { graph = rotation_of (tables a.vertices a.ends.items a.links.first a.degree.items a.links.cw a.links.ccw); spare = a.spare } };
 
-    ghost invariant = { λ a. IsMap a.vertices a.ends.items a.first.items a.degree.items a.cw.items a.ccw.items
-        × HasRoom a.vertices (length a.ends.items) a.spare (vec_capacity a.ends) (vec_capacity a.first) (vec_capacity a.degree) (vec_capacity a.cw) (vec_capacity a.ccw) };
+    ghost invariant = { λ a. IsMap (tables a.vertices a.ends.items a.links.first a.degree.items a.links.cw a.links.ccw)
+        × HasRoom a.vertices (length a.ends.items) a.spare (vec_capacity a.ends) (vec_capacity a.degree) a.links };
 }
 
 /// A copy of the ends of all edges.
@@ -48,6 +50,24 @@ fn copied(alloc: Global, ends: &[(u32, u32)]) -> Result<Vec<(u32, u32)>, AllocEr
     let mut copy = Vec::new(alloc);
     copy.extend_from_slice(ends)?;
     Ok(copy)
+}
+
+/// The vertex of an end.
+#[tactic(auto, unfolding(crate::specs::Embedded::at, st_ids::specs::Ends::is_out, st_ids::specs::Ends::edge_of, st_ids::specs::Graph::tail_of, st_ids::specs::Graph::head_of))]
+fn vertex_at(ends: &[(u32, u32)], d: u32) -> u32
+    requires { d < 2 * length ends.now }
+    ensures { result ≡ at (record { vertices = 0; ends = ends.now; orders = [] }) d }
+{
+    let (tail, head) = ends[(d / 2) as usize];
+    if d % 2 == 0 { tail } else { head }
+}
+
+/// The number that the last edge had, where it took that of e.
+fn old_number(e: u32, last: u32) -> Option<EdgeId>
+    ensures old { IfSome result (λ old. old.0 ≡ last) }
+    ensures none { IsNone result ↔ (e ≡ last) }
+{
+    if e == last { None } else { Some(EdgeId(last)) }
 }
 
 impl Map {
@@ -76,14 +96,13 @@ impl Map {
         let cw = link_lists(alloc, n, ends, orders)?;
         let ccw = lead_back(alloc, &cw)?;
         let first = first_ends(alloc, n, ends, orders)?;
+        let links = Links::from_tables(alloc, &cw, &ccw, &first, graph.edges())?;
         let ends = copied(alloc, ends)?;
         Ok(Map {
             vertices: n,
             ends,
-            first,
             degree,
-            cw,
-            ccw,
+            links,
             spare: 0,
         })
     }
@@ -110,10 +129,8 @@ impl Map {
         Ok(Map {
             vertices: self.vertices,
             ends: Vec::from_slice(alloc, &self.ends)?,
-            first: Vec::from_slice(alloc, &self.first)?,
             degree: Vec::from_slice(alloc, &self.degree)?,
-            cw: Vec::from_slice(alloc, &self.cw)?,
-            ccw: Vec::from_slice(alloc, &self.ccw)?,
+            links: self.links.copied()?,
             spare,
         })
     }
@@ -135,10 +152,8 @@ impl Map {
         }
         let more = n as usize;
         make_room(&mut self.ends, more)?;
-        make_room(&mut self.first, more)?;
         make_room(&mut self.degree, more)?;
-        make_room(&mut self.cw, 2 * more)?;
-        make_room(&mut self.ccw, 2 * more)?;
+        self.links.reserve(more)?;
         self.spare = n;
         Ok(())
     }
@@ -160,19 +175,58 @@ impl Map {
         let vertex = self.vertices;
         let edge = self.ends.len() as u32;
         let (tail, head) = self.ends[e.0 as usize];
-        let end = 2 * e.0 + 1;
-        let (before, after) = (self.ccw[end as usize], self.cw[end as usize]);
-        split_links(&mut self.cw, end, before);
-        split_links(&mut self.ccw, end, after);
-        let first = self.first[head as usize];
-        self.first[head as usize] = renumber(first, end, 2 * edge + 1);
-        self.first.push_reserved(2 * edge);
+        self.links.split(e.0);
         self.degree.push_reserved(2);
         self.ends[e.0 as usize] = (tail, vertex);
         self.ends.push_reserved((vertex, head));
         self.vertices += 1;
         self.spare -= 1;
         (VertexId(vertex), EdgeId(edge))
+    }
+
+    /// Puts in an edge from the vertex of `after_a` to that of `after_b`, and answers it: it has the next number. Each of
+    /// its ends stands clockwise next after the given one. First ends stay, `spare` falls by 1, and all else stays.
+    ///
+    /// Cost: O(1) time, no memory. Not proved.
+    pub fn insert_edge(&mut self, after_a: Dart, after_b: Dart) -> EdgeId
+        requires a { after_a.0 < darts self.old.graph }
+        requires b { after_b.0 < darts self.old.graph }
+        requires apart { at self.old.graph after_a.0 ≢ at self.old.graph after_b.0 }
+        requires spare { 1 ≤ self.old.spare }
+        ensures number { result.0 ≡ edges self.old.graph }
+        ensures graph { self.new.graph ≡ insert self.old.graph after_a.0 after_b.0 }
+        ensures spare { self.new.spare + 1 ≡ self.old.spare }
+    {
+        let edge = self.ends.len() as u32;
+        let tail = vertex_at(&self.ends, after_a.0);
+        let head = vertex_at(&self.ends, after_b.0);
+        self.links.insert(after_a.0, after_b.0);
+        self.degree[tail as usize] += 1;
+        self.degree[head as usize] += 1;
+        self.ends.push_reserved((tail, head));
+        self.spare -= 1;
+        EdgeId(edge)
+    }
+
+    /// Takes the edge e out: its ends leave their lists, and where one was first, the clockwise next is. The edge with the
+    /// greatest number takes the number of e, and its old number is answered; `None` exactly where e had the greatest
+    /// number. `spare` stays, and so does all else.
+    ///
+    /// Cost: O(1) time, no memory. Not proved.
+    pub fn remove_edge(&mut self, e: EdgeId) -> Option<EdgeId>
+        requires { e.0 < edges self.old.graph }
+        ensures old { IfSome result (λ old. old.0 + 1 ≡ edges self.old.graph) }
+        ensures none { IsNone result ↔ (e.0 + 1 ≡ edges self.old.graph) }
+        ensures graph { self.new.graph ≡ removed self.old.graph e.0 }
+        ensures spare { self.new.spare ≡ self.old.spare }
+    {
+        let last = self.ends.len() as u32 - 1;
+        let (tail, head) = self.ends[e.0 as usize];
+        self.links.remove(e.0, tail, head);
+        self.degree[tail as usize] -= 1;
+        self.degree[head as usize] -= 1;
+        self.ends.swap_remove(e.0 as usize);
+        old_number(e.0, last)
     }
 
     /// The number of vertices, below 2^30.
@@ -222,7 +276,7 @@ impl Map {
         if self.degree[v.0 as usize] == 0 {
             return None;
         }
-        Some(Dart(self.first[v.0 as usize]))
+        Some(Dart(self.links.first(v.0)))
     }
 
     /// The clockwise next end at the vertex of the end.
@@ -232,7 +286,7 @@ impl Map {
         ensures within { result.0 < darts self.now.graph }
         ensures vertex { at self.now.graph result.0 ≡ at self.now.graph d.0 }
     {
-        Dart(self.cw[d.0 as usize])
+        Dart(self.links.cw(d.0))
     }
 
     /// The counter-clockwise next end at the vertex of the end: the one whose clockwise next is this end.
@@ -242,7 +296,7 @@ impl Map {
         ensures within { result.0 < darts self.now.graph }
         ensures vertex { at self.now.graph result.0 ≡ at self.now.graph d.0 }
     {
-        Dart(self.ccw[d.0 as usize])
+        Dart(self.links.ccw(d.0))
     }
 
     /// How many ends there are at the vertex.
@@ -251,5 +305,13 @@ impl Map {
         ensures { result ≡ length (order self.now.graph v.0) }
     {
         self.degree[v.0 as usize]
+    }
+}
+
+#[cfg(test)]
+impl Map {
+    /// The ends by the keys of the links alone, from each record on.
+    pub fn rounds(&self, alloc: Global) -> Result<Vec<Vec<u32>>, AllocError> {
+        self.links.rounds(alloc)
     }
 }

@@ -106,6 +106,35 @@ fn split_copy(map: &Map) -> Option<Map> {
     }
 }
 
+/// A copy with an edge put in behind the ends 0 and 7, and then without edge 0; `None` where it lacks these, or memory
+/// runs out.
+fn exchanged_copy(map: &Map) -> Option<Map> {
+    let mut copy = map.copy().ok()?;
+    if copy.edges() != 4 || copy.vertices() > 100 {
+        return None;
+    }
+    copy.reserve(1).ok()?;
+    if copy.vertex_of(Dart(0)) == copy.vertex_of(Dart(7)) {
+        return None;
+    }
+    if copy.insert_edge(Dart(0), Dart(7)).0 != 4 {
+        return None;
+    }
+    match copy.remove_edge(EdgeId(0)) {
+        Some(EdgeId(4)) => Some(copy),
+        _ => None,
+    }
+}
+
+/// A copy without edge 3, which is the last; `None` where it isn't, or memory runs out.
+fn shortened_copy(map: &Map) -> Option<Map> {
+    let mut copy = map.copy().ok()?;
+    if copy.edges() != 4 || copy.remove_edge(EdgeId(3)).is_some() {
+        return None;
+    }
+    Some(copy)
+}
+
 /// A square of two paths from 0 to 3, whose lists have the edges out and then the edges in, last first.
 #[test]
 fn a_diamond_has_its_lists(rt: HostRuntime) {
@@ -165,6 +194,90 @@ fn a_split_edge_has_its_new_vertex_in_the_middle(rt: HostRuntime) {
         }
     }
     assert_eq!(rt; (map.vertices(), map.edges()), (4, 4));
+}
+
+/// An edge from 0 to 3 is put in behind the ends 0 and 7, and takes the number of edge 0 when that is taken out.
+#[test]
+fn the_last_edge_takes_the_number_of_one_taken_out(rt: HostRuntime) -> Result<(), AllocError> {
+    let edges = [(0, 1), (0, 2), (1, 3), (2, 3)];
+    let lists: [&[u32]; 4] = [&[0, 1], &[2, 0], &[3, 1], &[3, 2]];
+    let made = map_of(rt.alloc(), 4, &edges, &lists).expect(&rt, "memory");
+    let map = made.expect(&rt, "lawful lists");
+    let copy = exchanged_copy(&map).expect(&rt, "memory");
+    assert_eq!(rt; (copy.vertices(), copy.edges()), (4, 4));
+    if copy.vertices() == 4 && copy.edges() == 4 {
+        let edge = EdgeId(0);
+        assert_eq!(rt; (copy.tail(edge).0, copy.head(edge).0), (0, 3));
+        for (v, first, degree) in [(0, 0, 2), (1, 4, 1), (2, 6, 2), (3, 7, 3)] {
+            assert_eq!(rt; copy.at(VertexId(v)), Some(Dart(first)), "at {v}");
+            assert_eq!(rt; copy.degree(VertexId(v)), degree, "at {v}");
+        }
+        for (end, next) in [
+            (0, 2),
+            (2, 0),
+            (4, 4),
+            (6, 3),
+            (3, 6),
+            (7, 1),
+            (1, 5),
+            (5, 7),
+        ] {
+            assert_eq!(rt; copy.next_cw(Dart(end)), Dart(next), "at {end}");
+            assert_eq!(rt; copy.next_ccw(Dart(next)), Dart(end), "at {end}");
+        }
+    }
+    for round in &copy.rounds(rt.alloc())? {
+        assert!(rt; follows(&copy, round));
+    }
+    Ok(())
+}
+
+#[test]
+fn the_last_edge_is_taken_out(rt: HostRuntime) {
+    let edges = [(0, 1), (0, 2), (1, 3), (2, 3)];
+    let lists: [&[u32]; 4] = [&[0, 1], &[2, 0], &[3, 1], &[3, 2]];
+    let made = map_of(rt.alloc(), 4, &edges, &lists).expect(&rt, "memory");
+    let map = made.expect(&rt, "lawful lists");
+    let copy = shortened_copy(&map).expect(&rt, "memory");
+    assert_eq!(rt; (copy.vertices(), copy.edges()), (4, 3));
+    if copy.vertices() == 4 && copy.edges() == 3 {
+        assert_eq!(rt; copy.at(VertexId(2)), Some(Dart(3)));
+        assert_eq!(rt; copy.at(VertexId(3)), Some(Dart(5)));
+        for (end, next) in [(0, 2), (2, 0), (4, 1), (1, 4), (3, 3), (5, 5)] {
+            assert_eq!(rt; copy.next_cw(Dart(end)), Dart(next), "at {end}");
+        }
+    }
+}
+
+/// Whether each end of a round is the clockwise next of the one before, and the first that of the last.
+fn follows(map: &Map, round: &[u32]) -> bool {
+    for k in 0..round.len() {
+        let next = if k + 1 < round.len() {
+            round[k + 1]
+        } else {
+            round[0]
+        };
+        if round[k] / 2 >= map.edges() || map.next_cw(Dart(round[k])) != Dart(next) {
+            return false;
+        }
+    }
+    true
+}
+
+/// The lists by the keys in the slab, from each record of a square on.
+#[test]
+fn keys_lead_round_each_vertex(rt: HostRuntime) -> Result<(), AllocError> {
+    let edges = [(0, 1), (0, 2), (1, 3), (2, 3)];
+    let lists: [&[u32]; 4] = [&[0, 1], &[2, 0], &[3, 1], &[3, 2]];
+    let made = map_of(rt.alloc(), 4, &edges, &lists).expect(&rt, "memory");
+    let map = made.expect(&rt, "lawful lists");
+    let rounds = map.rounds(rt.alloc())?;
+    assert_eq!(rt; rounds.len(), 8);
+    for round in &rounds {
+        assert_eq!(rt; round.len(), 2);
+        assert!(rt; follows(&map, round));
+    }
+    Ok(())
 }
 
 #[test]
