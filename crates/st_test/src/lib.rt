@@ -9,9 +9,9 @@
 
 mod cycle;
 mod digraph_fault;
-mod digraph_tests;
 #[cfg(test)]
 mod embedding_tests;
+mod finding_poles;
 mod graph;
 pub mod laws;
 mod orbits;
@@ -21,7 +21,7 @@ mod tracing;
 mod verdict;
 
 pub use digraph_fault::{DigraphFault, Poles};
-pub use digraph_tests::poles;
+pub use finding_poles::poles;
 pub use graph::StGraph;
 pub use orbits::Faces;
 pub use topological::{TopologicalOrder, order_arcs, topological_order};

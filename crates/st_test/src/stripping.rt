@@ -76,7 +76,7 @@ pub fn list_zeros(alloc: Global, n: u32, degree: &[u32]) -> Result<Vec<u32>, All
     requires { length degree.now ≡ n }
     ensures { IfOk result (λ v. AreZeros n degree.now v.items) }
 {
-    let mut order = Vec::new(alloc);
+    let mut order = Vec::with_capacity(alloc, n as usize)?;
     for v in 0..n {
         if degree[v as usize] == 0 {
             order.push(v)?;

@@ -1,5 +1,5 @@
 //! A topological order of a graph without a cycle, of its vertices and of its edges.
-ghost use Rattle.std.specs.Prelude.{◌≡◌, ◌<◌, ◌^◌, ◌∷◌, ◌++◌, [], length, IfOk, OnOk};
+ghost use Rattle.std.specs.Prelude.{◌≡◌, ◌<◌, ◌^◌, length, IfOk};
 ghost use Rattle.st_ids.specs.EdgeNumbers.{numbers};
 ghost use Rattle.st_ids.specs.Graph.{AreWithin, arcs_of};
 ghost use Rattle.st_ids.specs.Walks.{IsAcyclic};
@@ -7,7 +7,7 @@ ghost use Rattle.st_test.specs.Poles.{graph_of};
 ghost use Rattle.st_test.specs.Topological.{AreOrdered, IsTopologicalOrder, vertex_numbers};
 
 use crate::stripping::{Order, strip};
-use st_ids::{Digraph, EdgeId, EdgeList, NoMemory, VertexId};
+use st_ids::{Digraph, EdgeId, NoMemory, VertexId};
 use std::alloc::Global;
 use std::marker::Model;
 
@@ -16,15 +16,16 @@ use std::marker::Model;
 #[derive(Drop)]
 pub struct TopologicalOrder {
     vertices: Vec<VertexId>,
-    edges: EdgeList,
+    edges: Vec<EdgeId>,
 }
 
 impl Model for TopologicalOrder {
+    ghost use Rattle.st_ids.specs.EdgeNumbers.{numbers};
     ghost use Rattle.st_test.specs.Topological.{OrderLists, vertex_numbers};
 
     ghost Value = { OrderLists };
 
-    ghost view = { λ a. record { vertices = vertex_numbers a.vertices.items; edges = a.edges } };
+    ghost view = { λ a. record { vertices = vertex_numbers a.vertices.items; edges = numbers a.edges.items } };
 }
 
 impl TopologicalOrder {
@@ -39,17 +40,7 @@ impl TopologicalOrder {
     pub fn edges(&self) -> &[EdgeId]
         ensures { numbers result.now ≡ self.now.edges }
     {
-        self.edges.items()
-    }
-}
-
-/// Appends a vertex.
-fn put(list: &mut Vec<VertexId>, v: VertexId) -> Result<(), NoMemory>
-    ensures { OnOk result (list.new.items ≡ list.old.items ++ v ∷ []) }
-{
-    match list.push(v) {
-        Ok(()) => Ok(()),
-        Err(_) => Err(NoMemory),
+        &self.edges
     }
 }
 
@@ -57,18 +48,18 @@ fn put(list: &mut Vec<VertexId>, v: VertexId) -> Result<(), NoMemory>
 fn vertex_list(alloc: Global, order: &[u32]) -> Result<Vec<VertexId>, NoMemory>
     ensures { IfOk result (λ l. vertex_numbers l.items ≡ order.now) }
 {
-    let mut list = Vec::new(alloc);
+    let mut list = Vec::with_capacity(alloc, order.len())?;
     for k in 0..order.len() {
-        put(&mut list, VertexId(order[k]))?;
+        list.push(VertexId(order[k]))?;
     }
     Ok(list)
 }
 
 /// The edges with these numbers.
-fn edge_list(alloc: Global, order: &[u32]) -> Result<EdgeList, NoMemory>
-    ensures { IfOk result (λ l. l ≡ order.now) }
+fn edge_list(alloc: Global, order: &[u32]) -> Result<Vec<EdgeId>, NoMemory>
+    ensures { IfOk result (λ l. numbers l.items ≡ order.now) }
 {
-    let mut list = EdgeList::new(alloc);
+    let mut list = Vec::with_capacity(alloc, order.len())?;
     for k in 0..order.len() {
         list.push(EdgeId(order[k]))?;
     }

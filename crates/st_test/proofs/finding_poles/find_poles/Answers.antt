@@ -5,7 +5,7 @@ use Rattle.st_test.specs.Poles.{IsOnlySource, IsOnlySink, NoneIn, NoneOut, graph
 use Rattle.st_ids.specs.Walks.{IsAcyclic}
 use Rattle.st_test.proofs.LongWalks.{acyclic}
 use Rattle.st_test.proofs.PoleLists.{first_two, only_source, only_sink}
-use Rattle.st_test.proofs.digraph_tests.find_poles.Goals as goal
+use Rattle.st_test.proofs.finding_poles.find_poles.Goals as goal
 
 pub returns-then-len-gt1 : goal.returns-then-len-gt1
 returns-then-len-gt1 c =

@@ -2,7 +2,7 @@ use Rattle.std.proofs.Common.{◌≡◌, ℕ, ◌<◌, Bool, false, List, length
 use Rattle.st_test.specs.BackTables.{is_left}
 use Rattle.st_test.specs.Poles.{graph_of}
 use Rattle.st_test.specs.PolesAnswer.{IsPolesAnswer}
-use Rattle.st_test.proofs.digraph_tests.poles.Goals as goal
+use Rattle.st_test.proofs.finding_poles.poles.Goals as goal
 
 pub find_poles-requires-clause-all : goal.find_poles-requires-clause-all
 find_poles-requires-clause-all c = λ v l.

@@ -4,7 +4,7 @@ use Rattle.st_test.specs.Poles.{NoneOut, graph_of}
 use Rattle.st_test.specs.StripState.{AreZeros}
 use Rattle.st_test.specs.PolesAnswer.{AreInOrder}
 use Rattle.st_test.proofs.PoleLists.{are_sinks, some_sink, those-short}
-use Rattle.st_test.proofs.digraph_tests.list_sinks.Goals as goal
+use Rattle.st_test.proofs.finding_poles.list_sinks.Goals as goal
 
 pub returns-clause-those : goal.returns-clause-those
 returns-clause-those c = IfOk-weaker c.list_zeros.result (λ v. AreZeros c.args.n c.deref.result.now v.items) (λ v. AreInOrder c.args.n (NoneOut (graph_of c.args.n c.args.ends.now)) v.items)
