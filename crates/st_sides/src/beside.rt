@@ -57,7 +57,7 @@ pub(crate) fn vertex_nodes(
     requires size { length nodes.now ≡ edges graph.now.map.graph }
     ensures { IfOk result (λ r. IsFilled 0 (λ v z. IsBeside graph.now.source graph.now.sink nodes.now right half (slice_index_or outs.now v []) v z) graph.now.map.graph.vertices r) }
 {
-    let mut list = IdVec::new(alloc);
+    let mut list = IdVec::with_capacity(alloc, graph.map().vertices())?;
     for v in 0..graph.map().vertices() {
         list.push(beside(graph, outs, nodes, VertexId(v), right, half))?;
     }

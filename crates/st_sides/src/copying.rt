@@ -12,6 +12,7 @@ pub(crate) fn digraph_of(alloc: Global, map: &Map) -> Result<Digraph, NoMemory>
 {
     let mut graph = Digraph::new(alloc);
     graph.add_vertices(map.vertices());
+    graph.reserve(map.edges())?;
     for e in 0..map.edges() {
         let (tail, head) = (map.tail(EdgeId(e)), map.head(EdgeId(e)));
         graph.add_edge(tail, head)?;

@@ -34,7 +34,7 @@ pub(crate) fn edge_nodes(
 {
     let own = graph.outer();
     let faces = graph.faces();
-    let mut nodes = IdVec::new(alloc);
+    let mut nodes = IdVec::with_capacity(alloc, graph.map().edges())?;
     for e in 0..graph.map().edges() {
         let face = faces.orbit(Dart(2 * e + side));
         nodes.push(node_of(face.0, own.0, half))?;

@@ -1,44 +1,32 @@
 //! The two runs of ends round a vertex or along a face, as lists of edges.
-ghost use Rattle.std.specs.Prelude.{◌≡◌, ◌<◌, IfOk};
+ghost use Rattle.std.specs.Prelude.{◌<◌, IfOk};
 ghost use Rattle.st_ids.specs.EdgeNumbers.{numbers};
 ghost use Rattle.st_map.specs.Embedded.{darts};
 ghost use Rattle.st_map.specs.Orbits.{Permutes};
 ghost use Rattle.st_sides.specs.Rounds.{AreParts, HasParts, round};
 
 use crate::runs::run;
-use st_ids::{Dart, EdgeId, EdgeList, NoMemory};
+use st_ids::{Dart, EdgeId, NoMemory};
 use st_map::Map;
-use std::alloc::Global;
 
-/// The list of these edges.
-fn list_of(alloc: Global, edges: &[EdgeId]) -> Result<EdgeList, NoMemory>
-    ensures { IfOk result (λ l. l ≡ numbers edges.now) }
-{
-    let mut list = EdgeList::new(alloc);
-    for i in 0..edges.len() {
-        list.push(edges[i])?;
-    }
-    Ok(list)
-}
-
-/// The edges of the ends out from `start` on, those of the ends in after them from the last to the first, and the end
-/// where the ends out stop.
+/// Fills the lists with the edges of the ends out from `start` on, and with those of the ends in after them from the last
+/// to the first. Answers the end where the ends out stop.
+#[inline(always)]
 pub(crate) fn parts(
-    alloc: Global,
     map: &Map,
     face: bool,
     start: Dart,
-) -> Result<(EdgeList, EdgeList, Dart), NoMemory>
+    outs: &mut Vec<EdgeId>,
+    ins: &mut Vec<EdgeId>,
+) -> Result<Dart, NoMemory>
     requires permutes { Permutes (darts map.now.graph) (round map.now.graph face) }
     requires there { start.0 < darts map.now.graph }
     requires some { HasParts (round map.now.graph face) start.0 }
-    ensures parts { IfOk result (λ r. AreParts (round map.now.graph face) start.0 r.0 r.1 r.2.0) }
-    ensures within { IfOk result (λ r. r.2.0 < darts map.now.graph) }
+    ensures parts { IfOk result (λ stop. AreParts (round map.now.graph face) start.0 (numbers outs.new.items) (numbers ins.new.items) stop.0) }
+    ensures within { IfOk result (λ stop. stop.0 < darts map.now.graph) }
 {
-    let (outs, stop) = run(alloc, map, face, true, start)?;
-    let (mut ins, _) = run(alloc, map, face, false, stop)?;
+    let stop = run(map, face, true, start, outs)?;
+    let _end = run(map, face, false, stop, ins)?;
     ins.reverse();
-    let outs = list_of(alloc, &outs)?;
-    let ins = list_of(alloc, &ins)?;
-    Ok((outs, ins, stop))
+    Ok(stop)
 }

@@ -1,13 +1,15 @@
 //! The two paths of each node of the dual, with its lowest and highest vertex.
 ghost use Rattle.std.specs.Prelude.{◌≡◌, ◌+◌, ◌<◌, ◌≤◌, ◌^◌, [], true, false, IfOk};
+ghost use Rattle.st_ids.specs.EdgeNumbers.{numbers};
 ghost use Rattle.st_map.specs.Embedded.{darts, faces};
 ghost use Rattle.st_test.specs.FaceNumbers.{orbit_number};
 ghost use Rattle.st_sides.specs.Filled.{AreStarts, label_of};
 ghost use Rattle.st_sides.specs.NodeSides.{AreNodeLists, NodeBegins, NodeSides};
 
 use crate::parts::parts;
+use crate::stars::two_lists;
 use crate::starts::{list_starts, vertex_of};
-use st_ids::{Dart, EdgeList, FaceId, IdVec, NoMemory, PathList};
+use st_ids::{Dart, EdgeId, FaceId, IdVec, NoMemory, PathList};
 use st_test::StGraph;
 use std::alloc::Global;
 
@@ -44,33 +46,34 @@ fn node_start(graph: &StGraph, starts: &[u32], f: u32) -> Dart
     Dart(starts[at as usize])
 }
 
-/// The list, or none of it.
-fn unless(alloc: Global, none: bool, list: EdgeList) -> EdgeList
-    ensures none { none ≡ true → result ≡ [] }
-    ensures all { none ≡ false → result ≡ list }
+/// Takes all edges out of the list, or leaves it.
+fn clear_if(list: &mut Vec<EdgeId>, none: bool)
+    ensures none { none ≡ true → list.new.items ≡ [] }
+    ensures all { none ≡ false → list.new.items ≡ list.old.items }
 {
     if none {
-        return EdgeList::new(alloc);
+        list.clear();
     }
-    list
 }
 
-/// The lowest and highest vertex and the left and right path of a node, whose face begins with `start`.
+/// Fills the lists with the left and right path of a node, whose face begins with `start`, and answers its lowest and
+/// highest vertex.
 fn node_sides(
-    alloc: Global,
     graph: &StGraph,
     f: u32,
     start: Dart,
-) -> Result<(u32, u32, EdgeList, EdgeList), NoMemory>
+    left: &mut Vec<EdgeId>,
+    right: &mut Vec<EdgeId>,
+) -> Result<(u32, u32), NoMemory>
     requires there { f ≤ faces graph.now.map.graph }
     requires begins { NodeBegins graph.now.map.graph graph.now.outer f start.0 }
-    ensures { IfOk result (λ r. NodeSides graph.now.map.graph graph.now.source graph.now.sink graph.now.outer f r.0 r.1 r.2 r.3) }
+    ensures { IfOk result (λ r. NodeSides graph.now.map.graph graph.now.source graph.now.sink graph.now.outer f r.0 r.1 (numbers left.new.items) (numbers right.new.items)) }
 {
     let map = graph.map();
-    let (outs, ins, stop) = parts(alloc, map, true, start)?;
-    let left = unless(alloc, f == 0, ins);
-    let right = unless(alloc, f == count_faces(graph), outs);
-    Ok((vertex_of(map, start).0, vertex_of(map, stop).0, left, right))
+    let stop = parts(map, true, start, right, left)?;
+    clear_if(left, f == 0);
+    clear_if(right, f == count_faces(graph));
+    Ok((vertex_of(map, start).0, vertex_of(map, stop).0))
 }
 
 /// The lowest and highest vertices and the paths of all nodes.
@@ -87,17 +90,19 @@ pub(crate) fn node_lists(alloc: Global, graph: &StGraph) -> Result<NodeLists, No
     ensures { IfOk result (λ r. AreNodeLists graph.now.map.graph graph.now.source graph.now.sink graph.now.outer (faces graph.now.map.graph + 1) r.lows r.highs r.lefts r.rights) }
 {
     let starts = list_starts(alloc, graph, true)?;
-    let mut lows = IdVec::new(alloc);
-    let mut highs = IdVec::new(alloc);
-    let mut lefts = PathList::new(alloc);
-    let mut rights = PathList::new(alloc);
-    for f in 0..count_faces(graph) + 1 {
+    let count = count_faces(graph) + 1;
+    let mut lows = IdVec::with_capacity(alloc, count)?;
+    let mut highs = IdVec::with_capacity(alloc, count)?;
+    let (mut lefts, mut rights) = two_lists(alloc, count, graph.map().edges())?;
+    let mut left = Vec::new(alloc);
+    let mut right = Vec::new(alloc);
+    for f in 0..count {
         let start = node_start(graph, &starts, f);
-        let (low, high, left, right) = node_sides(alloc, graph, f, start)?;
+        let (low, high) = node_sides(graph, f, start, &mut left, &mut right)?;
         lows.push(low)?;
         highs.push(high)?;
-        lefts.push(left)?;
-        rights.push(right)?;
+        lefts.push_edges(&left)?;
+        rights.push_edges(&right)?;
     }
     Ok(NodeLists {
         lows,

@@ -9,7 +9,6 @@ ghost use Rattle.st_sides.specs.Stretches.{forward};
 
 use st_ids::{Dart, EdgeId, NoMemory};
 use st_map::Map;
-use std::alloc::Global;
 
 /// The other end of the edge.
 fn twin_of(map: &Map, d: Dart) -> Dart
@@ -43,10 +42,8 @@ pub(crate) fn step(map: &Map, face: bool, d: Dart) -> Dart
 fn put(list: &mut Vec<EdgeId>, e: EdgeId) -> Result<(), NoMemory>
     ensures { OnOk result (list.new.items ≡ list.old.items ++ e ∷ []) }
 {
-    match list.push(e) {
-        Ok(()) => Ok(()),
-        Err(_) => Err(NoMemory),
-    }
+    list.push(e)?;
+    Ok(())
 }
 
 /// Whether the end is of the kind, and not the first again.
@@ -56,29 +53,30 @@ fn goes_on(out: bool, start: Dart, end: Dart) -> bool
     end.is_out() == out && end.0 != start.0
 }
 
-/// The edges of the ends of one kind from `start` on, and the end that comes after them.
+/// Fills the list with the edges of the ends of one kind from `start` on, and answers the end that comes after them.
+#[inline(always)]
 pub(crate) fn run(
-    alloc: Global,
     map: &Map,
     face: bool,
     out: bool,
     start: Dart,
-) -> Result<(Vec<EdgeId>, Dart), NoMemory>
+    list: &mut Vec<EdgeId>,
+) -> Result<Dart, NoMemory>
     requires permutes { Permutes (darts map.now.graph) (round map.now.graph face) }
     requires there { start.0 < darts map.now.graph }
     requires some { (n : ℕ) × IsRun (round map.now.graph face) out start.0 n }
-    ensures list { IfOk result (λ r. (n : ℕ) → IsRun (round map.now.graph face) out start.0 n → numbers r.0.items ≡ forward n (round map.now.graph face) start.0) }
-    ensures end { IfOk result (λ r. (n : ℕ) → IsRun (round map.now.graph face) out start.0 n → r.1.0 ≡ iterate n (round map.now.graph face) start.0) }
+    ensures list { OnOk result ((n : ℕ) → IsRun (round map.now.graph face) out start.0 n → numbers list.new.items ≡ forward n (round map.now.graph face) start.0) }
+    ensures end { IfOk result (λ end. (n : ℕ) → IsRun (round map.now.graph face) out start.0 n → end.0 ≡ iterate n (round map.now.graph face) start.0) }
 {
-    let mut list = Vec::new(alloc);
+    list.clear();
     if start.is_out() != out {
-        return Ok((list, start));
+        return Ok(start);
     }
-    put(&mut list, start.edge())?;
+    put(list, start.edge())?;
     let mut end = step(map, face, start);
     'round: while goes_on(out, start, end) {
-        put(&mut list, end.edge())?;
+        put(list, end.edge())?;
         end = step(map, face, end);
     }
-    Ok((list, end))
+    Ok(end)
 }

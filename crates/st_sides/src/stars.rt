@@ -1,5 +1,6 @@
 //! The edges out and in at each vertex, from left to right.
-ghost use Rattle.std.specs.Prelude.{◌≡◌, ◌≢◌, ◌⊎◌, ◌↔◌, ◌<◌, [], false, IfOk, IsTrue};
+ghost use Rattle.std.specs.Prelude.{◌≡◌, ◌≢◌, ◌⊎◌, ◌↔◌, ◌<◌, [], false, IfOk, OnOk, IsTrue};
+ghost use Rattle.st_ids.specs.EdgeNumbers.{numbers};
 ghost use Rattle.st_map.specs.Embedded.{at, darts};
 ghost use Rattle.st_test.specs.FaceNumbers.{orbit_number};
 ghost use Rattle.st_sides.specs.Conditions.{AreOuts, AreIns};
@@ -7,7 +8,7 @@ ghost use Rattle.st_sides.specs.Filled.{AreStarts, Begins, IsFilled};
 
 use crate::parts::parts;
 use crate::starts::{list_starts, vertex_of};
-use st_ids::{Dart, EdgeList, NoMemory, OrbitId, PathList, VertexId};
+use st_ids::{Dart, EdgeId, NoMemory, OrbitId, PathList, VertexId};
 use st_test::StGraph;
 use std::alloc::Global;
 
@@ -57,19 +58,31 @@ fn star_start(graph: &StGraph, starts: &[u32], v: VertexId) -> Dart
     Dart(starts[v.0 as usize])
 }
 
-/// The edges out of the vertex and those into it, from left to right.
+/// Fills the lists with the edges out of the vertex and those into it, from left to right.
 fn star(
-    alloc: Global,
     graph: &StGraph,
     v: VertexId,
     start: Dart,
-) -> Result<(EdgeList, EdgeList), NoMemory>
+    outs: &mut Vec<EdgeId>,
+    ins: &mut Vec<EdgeId>,
+) -> Result<(), NoMemory>
     requires { Begins graph.now.map.graph graph.now.source graph.now.sink graph.now.outer v.0 start.0 }
-    ensures outs { IfOk result (λ r. AreOuts graph.now.map.graph graph.now.source graph.now.outer v.0 r.0) }
-    ensures ins { IfOk result (λ r. AreIns graph.now.map.graph graph.now.sink graph.now.outer v.0 r.1) }
+    ensures outs { OnOk result (AreOuts graph.now.map.graph graph.now.source graph.now.outer v.0 (numbers outs.new.items)) }
+    ensures ins { OnOk result (AreIns graph.now.map.graph graph.now.sink graph.now.outer v.0 (numbers ins.new.items)) }
 {
-    let (outs, ins, _) = parts(alloc, graph.map(), false, start)?;
-    Ok((outs, ins))
+    let _stop = parts(graph.map(), false, start, outs, ins)?;
+    Ok(())
+}
+
+/// Two lists without paths, with room for n paths of m edges in each.
+pub(crate) fn two_lists(alloc: Global, n: u32, m: u32) -> Result<(PathList, PathList), NoMemory>
+    ensures { IfOk result (λ r. (r.0 ≡ []) × (r.1 ≡ [])) }
+{
+    let mut first = PathList::new(alloc);
+    let mut second = PathList::new(alloc);
+    first.reserve(n, m)?;
+    second.reserve(n, m)?;
+    Ok((first, second))
 }
 
 /// The edges out of each vertex and those into it, from left to right.
@@ -78,13 +91,18 @@ pub(crate) fn stars(alloc: Global, graph: &StGraph) -> Result<(PathList, PathLis
     ensures ins { IfOk result (λ r. IsFilled [] (λ v es. AreIns graph.now.map.graph graph.now.sink graph.now.outer v es) graph.now.map.graph.vertices r.1) }
 {
     let starts = list_starts(alloc, graph, false)?;
-    let mut all_outs = PathList::new(alloc);
-    let mut all_ins = PathList::new(alloc);
+    let (mut all_outs, mut all_ins) = two_lists(
+        alloc,
+        graph.map().vertices(),
+        graph.map().edges(),
+    )?;
+    let mut outs = Vec::new(alloc);
+    let mut ins = Vec::new(alloc);
     for v in 0..graph.map().vertices() {
         let start = star_start(graph, &starts, VertexId(v));
-        let (outs, ins) = star(alloc, graph, VertexId(v), start)?;
-        all_outs.push(outs)?;
-        all_ins.push(ins)?;
+        star(graph, VertexId(v), start, &mut outs, &mut ins)?;
+        all_outs.push_edges(&outs)?;
+        all_ins.push_edges(&ins)?;
     }
     Ok((all_outs, all_ins))
 }

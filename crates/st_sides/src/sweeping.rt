@@ -17,10 +17,8 @@ use std::alloc::Global;
 fn put_arc(list: &mut Vec<(u32, u32)>, tail: u32, head: u32) -> Result<(), NoMemory>
     ensures { OnOk result (list.new.items ≡ list.old.items ++ (tail, head) ∷ []) }
 {
-    match list.push((tail, head)) {
-        Ok(()) => Ok(()),
-        Err(_) => Err(NoMemory),
-    }
+    list.push((tail, head))?;
+    Ok(())
 }
 
 /// The arcs of the dual: from the node on the left of each edge to the node on its right.
@@ -28,7 +26,7 @@ fn dual_arcs(alloc: Global, sides: &Sides) -> Result<Vec<(u32, u32)>, NoMemory>
     ensures arcs { IfOk result (λ arcs. AreDualArcs sides.now (edge_count sides.now) arcs.items) }
     ensures few { edge_count sides.now < 2 ^ 30 }
 {
-    let mut arcs = Vec::new(alloc);
+    let mut arcs = Vec::with_capacity(alloc, sides.edges() as usize)?;
     for e in 0..sides.edges() {
         let (left, right) = (sides.face_left(EdgeId(e)), sides.face_right(EdgeId(e)));
         put_arc(&mut arcs, left.0, right.0)?;
@@ -40,17 +38,15 @@ fn dual_arcs(alloc: Global, sides: &Sides) -> Result<Vec<(u32, u32)>, NoMemory>
 fn put_node(list: &mut Vec<FaceId>, f: FaceId) -> Result<(), NoMemory>
     ensures { OnOk result (list.new.items ≡ list.old.items ++ f ∷ []) }
 {
-    match list.push(f) {
-        Ok(()) => Ok(()),
-        Err(_) => Err(NoMemory),
-    }
+    list.push(f)?;
+    Ok(())
 }
 
 /// The nodes with the numbers of these.
 fn node_list(alloc: Global, order: &[VertexId]) -> Result<Vec<FaceId>, NoMemory>
     ensures { IfOk result (λ l. node_numbers l.items ≡ vertex_numbers order.now) }
 {
-    let mut list = Vec::new(alloc);
+    let mut list = Vec::with_capacity(alloc, order.len())?;
     for v in order {
         put_node(&mut list, FaceId(v.0))?;
     }

@@ -1,5 +1,3 @@
-use Rattle.std.proofs.Common.{ℕ, ◌<◌}
-use Rattle.st_map.specs.Embedded.{Embedded}
 use Rattle.st_sides.proofs.NormalLemmas.{order_law}
 use Rattle.st_sides.proofs.laws.orders_stay.Goals as goal
 

@@ -1,4 +1,5 @@
 use Rattle.std.proofs.Common.{false, sym, subst}
+use Rattle.st_ids.specs.EdgeNumbers.{numbers}
 use Rattle.st_map.specs.Embedded.{darts, next}
 use Rattle.st_map.specs.Orbits.{Permutes}
 use Rattle.st_sides.specs.Rounds.{AreParts, HasParts, round}
@@ -19,11 +20,11 @@ parts-requires-clause-some c =
 pub returns-clause-outs : goal.returns-clause-outs
 returns-clause-outs c =
     (star_lists c.args.graph.now.map.graph c.args.graph.now.source c.args.graph.now.sink c.args.graph.now.outer c.map.ensures.planar c.args.v.0 c.args.start.0 c.requires
-    c.in_ok-outs.outs c.in_ok-outs.ins c.in_ok-outs.field-0-2.0
-    (subst (λ z. AreParts (round z.graph false) c.args.start.0 c.in_ok-outs.outs c.in_ok-outs.ins c.in_ok-outs.field-0-2.0) c.map.ensures.value c.in_ok-outs.ensures.parts)).0
+    (numbers c.parts.new.outs.items) (numbers c.parts.new.ins.items) c.in_ok-_stop._stop.0
+    (subst (λ z. AreParts (round z.graph false) c.args.start.0 (numbers c.parts.new.outs.items) (numbers c.parts.new.ins.items) c.in_ok-_stop._stop.0) c.map.ensures.value c.in_ok-_stop.ensures.parts)).0
 
 pub returns-clause-ins : goal.returns-clause-ins
 returns-clause-ins c =
     (star_lists c.args.graph.now.map.graph c.args.graph.now.source c.args.graph.now.sink c.args.graph.now.outer c.map.ensures.planar c.args.v.0 c.args.start.0 c.requires
-    c.in_ok-outs.outs c.in_ok-outs.ins c.in_ok-outs.field-0-2.0
-    (subst (λ z. AreParts (round z.graph false) c.args.start.0 c.in_ok-outs.outs c.in_ok-outs.ins c.in_ok-outs.field-0-2.0) c.map.ensures.value c.in_ok-outs.ensures.parts)).1
+    (numbers c.parts.new.outs.items) (numbers c.parts.new.ins.items) c.in_ok-_stop._stop.0
+    (subst (λ z. AreParts (round z.graph false) c.args.start.0 (numbers c.parts.new.outs.items) (numbers c.parts.new.ins.items) c.in_ok-_stop._stop.0) c.map.ensures.value c.in_ok-_stop.ensures.parts)).1
