@@ -23,7 +23,7 @@ fn take_all<F: Fn(EdgeId) -> u32>(
     requires edges { w.now.edges ≡ edges map.now.graph }
     ensures { IfOk result (AreTaken (F.post w.now.closure) (edges map.now.graph) w.now.most) }
 {
-    let mut taken = IdVec::new(alloc);
+    let mut taken = IdVec::with_capacity(alloc, map.edges())?;
     for e in 0..map.edges() {
         taken.push(w.weight(EdgeId(e)))?;
     }
@@ -75,7 +75,7 @@ pub fn signed<K: Id>(alloc: Global, sums: &IdVec<K, u64>) -> Result<IdVec<K, i64
     requires few { (k : ℕ) → k < length sums.now → slice_index sums.now k < 2 ^ 63 }
     ensures { IfOk result (λ v. v ≡ map (λ n. pos n) sums.now) }
 {
-    let mut list = IdVec::new(alloc);
+    let mut list = IdVec::with_capacity(alloc, sums.len())?;
     let items = sums.items();
     for k in 0..items.len() {
         list.push(items[k] as i64)?;
@@ -91,6 +91,7 @@ fn digraph_of(alloc: Global, map: &Map) -> Result<Digraph, NoMemory>
 {
     let mut graph = Digraph::new(alloc);
     graph.add_vertices(map.vertices());
+    graph.reserve(map.edges())?;
     for e in 0..map.edges() {
         let (tail, head) = (map.tail(EdgeId(e)), map.head(EdgeId(e)));
         graph.add_edge(tail, head)?;
