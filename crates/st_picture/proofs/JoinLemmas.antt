@@ -1,7 +1,7 @@
 -- Figures, lines and labels, put behind one another: what a drawing that pushes them in this order has built.
 -- Letters: g sides, N names; a, b, d pictures.
 --   start, figures, second     the empty picture, that of the figures alone, that of figures and lines
---   first_is, second_is        what pushing the figures, and then the lines, gives
+--   first_is, second_is, first_by, second_by   what pushing the figures, and then the lines, gives
 --   count_first, count_second  how many items these have
 --   figures_first              the first items are figures, so push_labels may be called
 --   drawing_is                 with the labels it is the picture
@@ -40,6 +40,13 @@ module _ (g : SidesValue) (N : Names) (form : Form) (frame : Point) (figure : �
 
   pub second_is : (a b : Drawing) → a ≡ figures → b ≡ record a { items = a.items ++ each (line g N points) (edge_count g) } → b ≡ second
   second_is a b p q = q ∙ ap (λ z. let t : Drawing = record z { items = z.items ++ each (line g N points) (edge_count g) } in t) p
+
+  -- the same where code counts vertices and edges
+  pub first_by : (a b : Drawing) (n : ℕ) → a ≡ start → n ≡ g.vertices → b ≡ record a { items = a.items ++ each figure n } → b ≡ figures
+  first_by a b n p m q = first_is a b p (q ∙ ap (λ z. let t : Drawing = record a { items = a.items ++ each figure z } in t) m)
+
+  pub second_by : (a b : Drawing) (n : ℕ) → a ≡ figures → n ≡ edge_count g → b ≡ record a { items = a.items ++ each (line g N points) n } → b ≡ second
+  second_by a b n p m q = second_is a b p (q ∙ ap (λ z. let t : Drawing = record a { items = a.items ++ each (line g N points) z } in t) m)
 
   pub count_first : (d : Drawing) → d ≡ figures → length d.items ≡ g.vertices
   count_first d p = ap (λ z. length z.items) p ∙ length-each figure g.vertices

@@ -8,6 +8,7 @@
 --   AreTables   tables of heights, columns and lines that grow as bars and lines need
 --   HasFrame    the frame is no wider and no higher than a picture may be
 use Rattle.std.specs.Prelude.{ℕ, ◌+◌, ◌-◌, ◌<◌, ◌≤◌, List, [], ◌∷◌, length, slice_index_or, ℤ, pos, nat_abs, ◌≤ℤ◌}
+use Rattle.st_ids.specs.declared.limits.TheConstants.{MOST_COORDINATE}
 use Rattle.st_ids.specs.declared.names.Names.{Names}
 use Rattle.st_shape.specs.declared.item.Item.{Item}
 use Rattle.st_shape.specs.declared.item.Item.TheVariants.{Bar}
@@ -56,5 +57,5 @@ pub record AreTables (g : SidesValue) (heights columns lines : List ℤ) : Type 
 
 -- the frame is no wider and no higher than a picture may be
 pub record HasFrame (g : SidesValue) (heights columns : List ℤ) : Type 0 where
-  pub wide : number_at columns g.t_star ≤ 50000001
-  pub high : number_at heights g.sink ≤ 50000000
+  pub wide : number_at columns g.t_star ≤ MOST_COORDINATE + 1
+  pub high : number_at heights g.sink ≤ MOST_COORDINATE

@@ -1,4 +1,5 @@
 pub mod Bars
+pub mod Composed
 pub mod Drawn
 pub mod Growing
 pub mod Items

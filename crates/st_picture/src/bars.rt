@@ -7,8 +7,7 @@ ghost use Rattle.st_picture.specs.Naming.{AreNames};
 ghost use Rattle.st_shape.specs.Rules.{FitsFrame};
 ghost use Rattle.st_sides.specs.Sides.{edge_count};
 
-use crate::labels::push_labels;
-use crate::pushing::push_each;
+use crate::composing::{compose, line};
 use st_ids::{EdgeId, FaceId, Names, NoMemory, VertexId};
 use st_shape::{Form, Item, Picture, Point, Points};
 use st_sides::{Sides, laws};
@@ -79,27 +78,6 @@ fn bar(sides: &Sides, heights: &[i64], columns: &[i64], names: &Names, v: Vertex
     }
 }
 
-/// Adds the bar of each vertex.
-fn push_bars(
-    picture: &mut Picture,
-    sides: &Sides,
-    heights: &[i64],
-    columns: &[i64],
-    names: &Names,
-) -> Result<(), NoMemory>
-    requires names { AreNames sides.now names.now }
-    requires heights { HasNaturals heights.now sides.now.vertices }
-    requires columns { HasNaturals columns.now (sides.now.t_star + 1) }
-    requires rightward { GrowsRight sides.now (number_at columns.now) }
-    requires fits { (v : ℕ) → v < sides.now.vertices → FitsFrame picture.old.frame (bar sides.now names.now (number_at heights.now) (number_at columns.now) v) }
-    requires room { length picture.old.items + sides.now.vertices < 2 ^ 31 }
-    ensures { OnOk result (picture.new ≡ record picture.old { items = picture.old.items ++ each (bar sides.now names.now (number_at heights.now) (number_at columns.now)) sides.now.vertices }) }
-{
-    push_each(picture, sides.vertices(), |v| {
-        bar(sides, heights, columns, names, VertexId(v))
-    })
-}
-
 /// The upright line of an edge.
 fn upright(
     alloc: Global,
@@ -119,33 +97,7 @@ fn upright(
     let head = sides.head(e);
     let low = point_in(lines, e.0, heights, tail.0);
     let high = point_in(lines, e.0, heights, head.0);
-    Item::Line {
-        name: *names.edge.get(e),
-        tail: *names.vertex.get(tail),
-        head: *names.vertex.get(head),
-        points: Points::two(alloc, low, high),
-    }
-}
-
-/// Adds the line of each edge.
-fn push_lines(
-    alloc: Global,
-    picture: &mut Picture,
-    sides: &Sides,
-    heights: &[i64],
-    lines: &[i64],
-    names: &Names,
-) -> Result<(), NoMemory>
-    requires names { AreNames sides.now names.now }
-    requires heights { HasNaturals heights.now sides.now.vertices }
-    requires lines { HasNaturals lines.now (edge_count sides.now) }
-    requires fits { (e : ℕ) → e < edge_count sides.now → FitsFrame picture.old.frame (line sides.now names.now (upright sides.now (number_at heights.now) (number_at lines.now)) e) }
-    requires room { length picture.old.items + edge_count sides.now < 2 ^ 31 }
-    ensures { OnOk result (picture.new ≡ record picture.old { items = picture.old.items ++ each (line sides.now names.now (upright sides.now (number_at heights.now) (number_at lines.now))) (edge_count sides.now) }) }
-{
-    push_each(picture, sides.edges(), |e| {
-        upright(alloc, sides, heights, lines, names, EdgeId(e))
-    })
+    line(sides, names, e, Points::two(alloc, low, high))
 }
 
 /// The picture of bars and lines: each vertex is a level bar at its height, from the column of its left to the one before
@@ -156,7 +108,7 @@ fn push_lines(
 /// follows these is not looked at. The frame is as wide as the column before that of the last node, and as high as the sink.
 ///
 /// Condition: heights grow along the edges, columns along the arcs of the dual, and each edge's column is between its left
-/// and its right; the frame has at most 50,000,000 units each way, and there is room for all items.
+/// and its right; the frame has at most `MOST_COORDINATE` units each way, and there is room for all items.
 /// Errors: `NoMemory`.
 /// Cost: O(V + E) time, and the memory of the picture.
 pub fn bars_and_lines(
@@ -175,8 +127,8 @@ pub fn bars_and_lines(
     ensures { IfOk result (λ d. d ≡ bars sides.now names.now form (number_at heights.now) (number_at columns.now) (number_at lines.now)) }
 {
     laws::local(sides);
-    let mut picture = Picture::new(alloc, form, corner(sides, heights, columns));
-    push_bars(&mut picture, sides, heights, columns, names)?;
-    push_lines(alloc, &mut picture, sides, heights, lines, names)?;
-    push_labels(alloc, picture, names)
+    let frame = corner(sides, heights, columns);
+    let figure = |v| bar(sides, heights, columns, names, VertexId(v));
+    let upright = |e| upright(alloc, sides, heights, lines, names, EdgeId(e));
+    compose(alloc, form, frame, sides, names, figure, upright)
 }

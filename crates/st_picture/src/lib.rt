@@ -2,6 +2,7 @@
 #![tactic(auto)]
 
 mod bars;
+mod composing;
 mod labels;
 pub mod laws;
 mod pushing;
@@ -9,5 +10,6 @@ mod pushing;
 mod tests;
 
 pub use bars::{bars_and_lines, number_in};
+pub use composing::{compose, dot, line};
 pub use labels::push_labels;
 pub use pushing::push_each;

@@ -153,7 +153,7 @@ fn are_tables(sides: &Sides, heights: &[i64], columns: &[i64], lines: &[i64]) ->
     edges_fit(sides, heights, columns, lines)
 }
 
-/// Whether the frame has at most 50,000,000 units each way.
+/// Whether the frame has at most `MOST_COORDINATE` units each way.
 fn is_framed(sides: &Sides, heights: &[i64], columns: &[i64]) -> bool
     requires heights { HasNaturals heights.now sides.now.vertices }
     requires columns { HasNaturals columns.now (sides.now.t_star + 1) }
