@@ -6,18 +6,12 @@ use Rattle.st_ids.specs.Walks.{Walk, stay, step, Reaches}
 use Rattle.st_sides.specs.Sides.{SidesValue, edge_count, edge_tail, edge_head, ins, primal, IsSides}
 use Rattle.st_order.specs.Orders.{Counts}
 use Rattle.st_ids.proofs.ListLemmas.{not_in_nil, In-cases, in_left, in_right, in_append, in_dec, cut_at, Cut, in_subst, Precedes-right}
+use Rattle.st_ids.proofs.Public.{joined_once}
 use Rattle.st_ids.proofs.WalkLemmas.{walk_append}
 use Rattle.st_order.proofs.BranchLemmas.{Branch}
 use Rattle.st_ids.proofs.FiniteLemmas.{Without, without, length-le_from_below, down}
 
 -- ---- lists
-pub NoRepeat-append : (xs ys : List ℕ) → NoRepeat xs → NoRepeat ys → ((x : ℕ) → In x xs → In x ys → ⊥) → NoRepeat (xs ++ ys)
-NoRepeat-append [] ys h k d = k
-NoRepeat-append (x ∷ xs) ys h k d = (
-  (λ i. elim (in_append xs i) [ inl a ↦ h.0 a | inr b ↦ d x (here refl) b ]),
-  NoRepeat-append xs ys h.1 k (λ y i j. d y (there i) j),
-)
-
 in_without : (p q : List ℕ) (x : ℕ) {y : ℕ} → In y (p ++ q) → In y (p ++ x ∷ q)
 in_without p q x i = elim (in_append p i) [ inl a ↦ in_left (x ∷ q) a | inr b ↦ in_right p (there b) ]
 
@@ -293,7 +287,7 @@ module _ {g : SidesValue} (S : IsSides g) {order : ℕ → List ℕ} {F : ℕ �
           ]),
         )
       ];
-      waits_once = NoRepeat-append (order v) T os.once R.waits_once.1 (λ d a b. not_done (in_subst (os.only d a).1 (R.waits d (there b)).1));
+      waits_once = joined_once (order v) T os.once R.waits_once.1 (λ d a b. not_done (in_subst (os.only d a).1 (R.waits d (there b)).1));
       led = led_all v T way walk beside (order v) os.once (λ x i. (os.only x i).1) (λ x b i p. p) R.led.1;
       newest = (
         (λ x i k. elim k [

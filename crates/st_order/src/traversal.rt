@@ -28,13 +28,12 @@ fn degrees(alloc: Global, sides: &Sides) -> Result<IdVec<VertexId, usize>, NoMem
 }
 
 /// Puts edges on a stack; from the left, the first of them is the first to be taken.
+#[inline(always)]
 fn put(stack: &mut Vec<EdgeId>, es: &[EdgeId], from_left: bool) -> Result<(), NoMemory>
     ensures { OnOk result (stack.new.items ≡ stack.old.items ++ (if from_left then reverse es.now else es.now)) }
 {
     let at = stack.len();
-    if stack.extend_from_slice(es).is_err() {
-        return Err(NoMemory);
-    }
+    stack.extend_from_slice(es)?;
     if from_left {
         stack[at..].reverse();
     }
@@ -43,6 +42,7 @@ fn put(stack: &mut Vec<EdgeId>, es: &[EdgeId], from_left: bool) -> Result<(), No
 
 /// The number of each vertex in the order in which the last of its edges in is taken. Edges out of a vertex are taken from
 /// left to right, or from right to left.
+#[inline(always)]
 fn traverse(alloc: Global, sides: &Sides, from_left: bool) -> Result<IdVec<VertexId, u32>, NoMemory>
     ensures { IfOk result (λ xs. AreNumbers from_left sides.now xs) }
 {
