@@ -1,30 +1,18 @@
 -- Whether an arc is transitive can be decided.
-use Rattle.std.proofs.Common.{◌≡◌, ◌≢◌, ℕ, zero, suc, ◌<◌, List, ◌∷◌, ◌⊎◌, inl, inr, sym, subst, arith}
+use Rattle.std.proofs.Common.{◌≡◌, ◌≢◌, ℕ, ◌<◌, List, ◌∷◌, ◌⊎◌, inl, inr, sym, arith}
 use Rattle.std.proofs.lemmas.Bool.{cases_eq, cases_lt}
 use Rattle.st_ids.specs.Lists.{In, here}
 use Rattle.st_ids.specs.Walks.{Arcs, Walk, stay, step, IsAcyclic}
 use Rattle.st_ids.specs.Walks.{Reaches as Leads}
 use Rattle.st_ids.proofs.ListLemmas.{In-cases}
+use Rattle.st_ids.proofs.Public.{IsDecided, some_below}
 use Rattle.st_ids.proofs.WalkLemmas.{reach_refl, reach_trans, no_loop, on_walk}
 use Rattle.st_ids.proofs.FiniteLemmas.{IsWithin, up}
 use Rattle.st_reduce.specs.Transitive.{IsTransitive}
 
-abbrev Decided : (ℕ → Type 0) → Type 0
-Decided D = (x : ℕ) → D x ⊎ (D x → ⊥)
-
-any_below : (D : ℕ → Type 0) → Decided D → (n : ℕ) → ((y : ℕ) × (y < n) × D y) ⊎ ((y : ℕ) → y < n → D y → ⊥)
-any_below D dec zero = inr (λ y l d. absurd (omega arith))
-any_below D dec (suc m) = elim (dec m) [
-  | inl d ↦ inl (m, omega arith, d)
-  | inr n ↦ elim (any_below D dec m) [
-    | inl h ↦ inl (h.0, (let k : h.0 < m = h.1 in omega arith), h.2)
-    | inr h ↦ inr (λ y l d. elim (cases_eq y m) [ inl q ↦ n (subst D q d) | inr q ↦ h y (omega arith) d ])
-  ]
-]
-
 -- ---- reaching and transitive arcs can be decided
 module _ (D : Arcs) (n : ℕ) (acyclic : IsAcyclic D) (within : IsWithin D n) where
-  goes : (u v : ℕ) → ((e : ℕ) → e < D.count → D.from e ≡ u → Leads D (D.to e) v ⊎ (Leads D (D.to e) v → ⊥)) → Decided (λ e. (e < D.count) × (D.from e ≡ u) × Leads D (D.to e) v)
+  goes : (u v : ℕ) → ((e : ℕ) → e < D.count → D.from e ≡ u → Leads D (D.to e) v ⊎ (Leads D (D.to e) v → ⊥)) → IsDecided (λ e. (e < D.count) × (D.from e ≡ u) × Leads D (D.to e) v)
   goes u v ih e = elim (cases_lt e D.count) [
     | inr k ↦ inr (λ h. (let z : e < D.count = h.0 in omega arith))
     | inl k ↦ elim (cases_eq (D.from e) u) [
@@ -36,7 +24,7 @@ module _ (D : Arcs) (n : ℕ) (acyclic : IsAcyclic D) (within : IsWithin D n) wh
   leads_dec : (u : ℕ) → u < n → (v : ℕ) → Leads D u v ⊎ (Leads D u v → ⊥)
   leads_dec = up D n acyclic within (λ u. (v : ℕ) → Leads D u v ⊎ (Leads D u v → ⊥)) (λ u i ih v. elim (cases_eq u v) [
     | inl q ↦ inl (reach_refl q)
-    | inr d ↦ elim (any_below (λ e. (e < D.count) × (D.from e ≡ u) × Leads D (D.to e) v) (goes u v (λ e k q. ih e k q v)) D.count) [
+    | inr d ↦ elim (some_below (λ e. (e < D.count) × (D.from e ≡ u) × Leads D (D.to e) v) (goes u v (λ e k q. ih e k q v)) D.count) [
       | inl h ↦ inl (record { way = h.0 ∷ h.2.2.way; walk = step h.2.0 h.2.1 h.2.2.walk })
       | inr none ↦ inr (λ r. not_by u v d none r.way r.walk)
     ]
@@ -46,7 +34,7 @@ module _ (D : Arcs) (n : ℕ) (acyclic : IsAcyclic D) (within : IsWithin D n) wh
       not_by u v d none es (stay q) = d q
       not_by u v d none es (step {e = e} {es = ds} a f w) = none e a (a, f, record { way = ds; walk = w })
 
-  branches : (a : ℕ) → Decided (λ e. (e < D.count) × (e ≢ a) × (D.from e ≡ D.from a) × Leads D (D.to e) (D.to a))
+  branches : (a : ℕ) → IsDecided (λ e. (e < D.count) × (e ≢ a) × (D.from e ≡ D.from a) × Leads D (D.to e) (D.to a))
   branches a e = elim (cases_lt e D.count) [
     | inr k ↦ inr (λ h. (let z : e < D.count = h.0 in omega arith))
     | inl k ↦ elim (cases_eq e a) [
@@ -59,7 +47,7 @@ module _ (D : Arcs) (n : ℕ) (acyclic : IsAcyclic D) (within : IsWithin D n) wh
   ]
 
   pub transitive_dec : (a : ℕ) → a < D.count → IsTransitive D a ⊎ (IsTransitive D a → ⊥)
-  transitive_dec a la = elim (any_below (λ e. (e < D.count) × (e ≢ a) × (D.from e ≡ D.from a) × Leads D (D.to e) (D.to a)) (branches a) D.count) [
+  transitive_dec a la = elim (some_below (λ e. (e < D.count) × (e ≢ a) × (D.from e ≡ D.from a) × Leads D (D.to e) (D.to a)) (branches a) D.count) [
     | inl h ↦
         let r = h.2.3 in
         inl (record {

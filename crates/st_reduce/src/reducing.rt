@@ -48,7 +48,7 @@ fn split_marked(
     requires room { marked_below marks.now (edges map.old.graph) ≤ map.old.spare }
     ensures { IfOk result (λ ds. IsReduced map.old.graph (dummy_numbers ds) map.new.graph) }
 {
-    let mut dummy: IdVec<EdgeId, Option<VertexId>> = IdVec::new(alloc);
+    let mut dummy: IdVec<EdgeId, Option<VertexId>> = IdVec::with_capacity(alloc, marks.len())?;
     for e in 0..marks.len() {
         let vertex = split_if(map, EdgeId(e), *marks.get(EdgeId(e)));
         dummy.push(vertex)?;

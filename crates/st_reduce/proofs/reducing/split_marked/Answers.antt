@@ -9,7 +9,7 @@ use Rattle.st_reduce.proofs.reducing.split_marked.Goals as goal
 
 pub loop-e-init : goal.loop-e-init
 loop-e-init c =
-    let q : dummy_numbers c.new-dummy.result ≡ [] = ap dummy_numbers c.new-dummy.ensures in
+    let q : dummy_numbers c.in_ok-dummy.dummy ≡ [] = ap dummy_numbers c.in_ok-dummy.ensures in
     (subst (λ z. Splits c.args.map.now.graph 0 z c.args.map.now.graph) (sym q) begin, omega (arith, c.requires.room))
 
 pub split_if-vertex-requires-clause-there : goal.split_if-vertex-requires-clause-there
