@@ -5,11 +5,12 @@ use Rattle.std.proofs.lemmas.Bool.{cases_eq, eq-eqb, ne_eqb, cond-true, cond-fal
 use Rattle.std.proofs.lemmas.List.{append-nil}
 use Rattle.st_ids.specs.Graph.{tail_of, head_of}
 use Rattle.st_ids.specs.Lists.{In, here, there, NoRepeat, Linked}
+use Rattle.st_ids.proofs.Public.{joined_once}
 use Rattle.st_ids.proofs.ListLemmas.{not_in_nil, In-cases, in_left, in_right, in_append, in_subst}
 use Rattle.st_map.specs.Orders.{IsOrderAt}
 use Rattle.st_input.specs.Orders.{outs, ins, default_order}
 use Rattle.st_gen.specs.Made.{range, ear_edges}
-use Rattle.st_gen.proofs.EarLists.{once_join, linked_from}
+use Rattle.st_gen.proofs.EarLists.{linked_from}
 
 -- ---- a list that has e where a test holds
 chosen : (a v e : ℕ) → a ≡ v → cond (eqb a v) (e ∷ []) [] ≡ e ∷ []
@@ -77,13 +78,13 @@ is_in v k (suc e) (a ∷ es) l q = in_left (cond (eqb a.1 v) (k ∷ []) []) (in_
 outs_once_from : (v k : ℕ) (es : List (ℕ × ℕ)) → NoRepeat (outs v k es)
 unfolding outs
 outs_once_from v k [] = tt
-outs_once_from v k (a ∷ es) = once_join (cond (eqb a.0 v) (k ∷ []) []) (outs v (k + 1) es) (chosen_once a.0 v k) (outs_once_from v (k + 1) es)
+outs_once_from v k (a ∷ es) = joined_once (cond (eqb a.0 v) (k ∷ []) []) (outs v (k + 1) es) (chosen_once a.0 v k) (outs_once_from v (k + 1) es)
     (λ x i j. let c = in_chosen a.0 v k x i in let r = out_is v (k + 1) x es j in absurd (omega (arith, c.0, r.is)))
 
 ins_once_from : (v k : ℕ) (es : List (ℕ × ℕ)) → NoRepeat (ins v k es)
 unfolding ins
 ins_once_from v k [] = tt
-ins_once_from v k (a ∷ es) = once_join (ins v (k + 1) es) (cond (eqb a.1 v) (k ∷ []) []) (ins_once_from v (k + 1) es) (chosen_once a.1 v k)
+ins_once_from v k (a ∷ es) = joined_once (ins v (k + 1) es) (cond (eqb a.1 v) (k ∷ []) []) (ins_once_from v (k + 1) es) (chosen_once a.1 v k)
     (λ x i j. let c = in_chosen a.1 v k x j in let r = in_is v (k + 1) x es i in absurd (omega (arith, c.0, r.is)))
 
 pub outs_once : (v : ℕ) (es : List (ℕ × ℕ)) → NoRepeat (outs v 0 es)
@@ -121,7 +122,7 @@ default_is_order es v no_loop = record {
     | inl q ↦ in_left (ins v 0 es) (outs_all es v e a.0 q)
     | inr q ↦ in_right (outs v 0 es) (ins_all es v e a.0 q)
   ];
-  once = once_join (outs v 0 es) (ins v 0 es) (outs_once v es) (ins_once v es)
+  once = joined_once (outs v 0 es) (ins v 0 es) (outs_once v es) (ins_once v es)
       (λ e i j. let a = outs_only es v e i in let b = ins_only es v e j in no_loop e a.0 (a.1 ∙ sym b.1));
 }
 

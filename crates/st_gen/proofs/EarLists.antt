@@ -2,6 +2,7 @@
 use Rattle.std.proofs.Common.{ℕ, zero, suc, List, [], ◌∷◌, ◌++◌, length, get_or, take, drop, ◌≡◌, ◌<◌, inl, inr, refl, sym, ap, subst, arith}
 use Rattle.std.specs.Prelude.{map}
 use Rattle.st_ids.specs.Lists.{In, here, there, NoRepeat, Linked}
+use Rattle.st_ids.proofs.Public.{joined_once}
 use Rattle.st_ids.proofs.ListLemmas.{not_in_nil, In-cases, in_left, in_right, in_append, in_subst}
 
 -- ---- the last element
@@ -38,19 +39,12 @@ once_apart (z ∷ xs) ys x h i j = elim (In-cases i) [
   | inr k ↦ once_apart xs ys x h.1 k j
 ]
 
-pub once_join : (xs ys : List ℕ) → NoRepeat xs → NoRepeat ys → ((x : ℕ) → In x xs → In x ys → ⊥) → NoRepeat (xs ++ ys)
-once_join [] ys h k d = k
-once_join (x ∷ xs) ys h k d = (
-  (λ i. elim (in_append xs i) [ inl a ↦ h.0 a | inr b ↦ d x (here refl) b ]),
-  once_join xs ys h.1 k (λ y i j. d y (there i) j),
-)
-
 -- what stands in the middle is replaced
 pub once_swap : (xs ms ns ys : List ℕ) → NoRepeat (xs ++ (ms ++ ys)) → NoRepeat ns → ((x : ℕ) → In x ns → In x (xs ++ (ms ++ ys)) → ⊥)
     → NoRepeat (xs ++ (ns ++ ys))
 once_swap xs ms ns ys h k d =
-    once_join xs (ns ++ ys) (once_left xs (ms ++ ys) h)
-    (once_join ns ys k (once_right ms ys (once_right xs (ms ++ ys) h)) (λ x i j. d x i (in_right xs (in_right ms j))))
+    joined_once xs (ns ++ ys) (once_left xs (ms ++ ys) h)
+    (joined_once ns ys k (once_right ms ys (once_right xs (ms ++ ys) h)) (λ x i j. d x i (in_right xs (in_right ms j))))
     (λ x i j. elim (in_append ns j) [
       | inl a ↦ d x a (in_left (ms ++ ys) i)
       | inr b ↦ once_apart xs (ms ++ ys) x h i (in_right ms b)
