@@ -7,6 +7,7 @@
 --   left_columns    a table of the columns on the left of edges
 use Rattle.std.proofs.Common.{ℕ, List, ◌≡◌, ◌<◌, ◌≤◌, ◌+◌, ◌-◌, ◌*◌, ℤ, arith, sym, ap, ◌∙◌, subst, length}
 use Rattle.std.proofs.lemmas.Nat.{mul-le}
+use Rattle.st_ids.specs.declared.limits.TheConstants.{MOST_COORDINATE}
 use Rattle.st_ids.specs.declared.ids.EdgeId.{EdgeId}
 use Rattle.st_ids.specs.declared.names.Names.{Names}
 use Rattle.st_map.specs.Embedded.{Embedded, edges}
@@ -34,7 +35,7 @@ module _ (g : SidesValue) (S : IsSides g) (w : ℕ → ℕ) (hs cs : List ℤ) (
     column = λ f l. subst (IsColumn g f) (sym (number_of cs (g.t_star + 1) c C f (omega arith))) (columns f l);
   }
 
-  pub laid_out : AreWeights g w → (most : ℕ) → ((e : ℕ) → e < edge_count g → w e ≤ most) → g.vertices * most ≤ 50000000 → edge_count g ≤ 50000000 → IsLaidOut g hs cs
+  pub laid_out : AreWeights g w → (most : ℕ) → ((e : ℕ) → e < edge_count g → w e ≤ most) → g.vertices * most ≤ MOST_COORDINATE → edge_count g ≤ MOST_COORDINATE → IsLaidOut g hs cs
   laid_out W most M high wide =
       let top : number_at hs g.sink ≤ (g.vertices - 1) * most = (bounds_law g S).heights w most M g.sink (number_at hs g.sink) (numbers_are.height g.sink (sink_in g S)) in
       let less : (g.vertices - 1) * most ≤ g.vertices * most = mul-le (g.vertices - 1) most g.vertices most (omega arith) (omega arith) in
@@ -69,7 +70,7 @@ tables g hs cs lines T L = record {
 }
 
 pub frame : (g : SidesValue) (hs cs : List ℤ) → IsLaidOut g hs cs → HasFrame g hs cs
-frame g hs cs T = record { wide = (let h : number_at cs g.t_star ≤ 50000000 = T.wide in omega arith); high = T.high }
+frame g hs cs T = record { wide = (let h : number_at cs g.t_star ≤ MOST_COORDINATE = T.wide in omega arith); high = T.high }
 
 module _ (E : Embedded) (s t outer : ℕ) (g : SidesValue) (Q : IsSidesOf E s t outer g) where
   pub same_edges : edge_count g ≡ edges E
@@ -92,7 +93,7 @@ module _ (E : Embedded) (s t outer : ℕ) (g : SidesValue) (Q : IsSidesOf E s t 
     numbers : AreNumbers g H.weight (number_at hs) (number_at cs)
     numbers = numbers_are g S H.weight hs cs H.height C.column has_heights has_columns are_heights C.greatest
 
-    pub laid : g.vertices * most ≤ 50000000 → edge_count g ≤ 50000000 → IsLaidOut g hs cs
+    pub laid : g.vertices * most ≤ MOST_COORDINATE → edge_count g ≤ MOST_COORDINATE → IsLaidOut g hs cs
     laid = laid_out g S H.weight hs cs H.height C.column has_heights has_columns are_heights C.greatest weights most (λ e a. H.to_most e (subst (λ z. e < z) same_edges a))
 
     pub by_tables : AreTablesBy answer g hs cs

@@ -5,6 +5,7 @@
 --   AreLeftColumns g c lines      for each edge the column of the node on its left
 -- Letters: g sides, y heights, c columns, e edge.
 use Rattle.std.specs.Prelude.{ℕ, ◌≡◌, ◌+◌, ◌<◌, ◌≤◌, List, ℤ}
+use Rattle.st_ids.specs.declared.limits.TheConstants.{MOST_COORDINATE}
 use Rattle.st_ids.specs.declared.ids.EdgeId.{EdgeId}
 use Rattle.st_shape.specs.declared.point.Point.{Point}
 use Rattle.st_sides.specs.Sides.{SidesValue, edge_count, face_left}
@@ -20,8 +21,8 @@ pub record IsLaidOut (g : SidesValue) (heights columns : List ℤ) : Type 0 wher
   pub columns_are : HasNaturals columns (g.t_star + 1)
   pub up : GrowsUp g (number_at heights)
   pub rightward : GrowsRight g (number_at columns)
-  pub high : number_at heights g.sink ≤ 50000000
-  pub wide : number_at columns g.t_star ≤ 50000000
+  pub high : number_at heights g.sink ≤ MOST_COORDINATE
+  pub wide : number_at columns g.t_star ≤ MOST_COORDINATE
 
 -- They are the heights and the columns of the graph under weights from 1, of which each is one that a closure may answer on
 -- the edge.

@@ -1,5 +1,6 @@
 //! Heights and columns of a graph as tables.
 ghost use Rattle.std.specs.Prelude.{◌≡◌, ◌*◌, ◌<◌, ◌≤◌, ◌≤ℤ◌, length, pos, slice_index_or, IfOk};
+ghost use Rattle.st_ids.specs.declared.limits.TheConstants.{MOST_COORDINATE};
 ghost use Rattle.draw_vis.specs.Tables.{AreTablesBy, IsLaidOut};
 ghost use Rattle.st_number.specs.Weighing.{IsLawful};
 ghost use Rattle.st_picture.specs.Bars.{number_at};
@@ -33,8 +34,8 @@ impl Grid {
         requires sides { IsSidesOf graph.now.map.graph graph.now.source graph.now.sink graph.now.outer sides.now }
         requires weights { w.now.edges ≡ edge_count sides.now }
         requires lawful { IsLawful F.pre F.post w.now }
-        requires high { sides.now.vertices * w.now.most ≤ 50000000 }
-        requires wide { edge_count sides.now ≤ 50000000 }
+        requires high { sides.now.vertices * w.now.most ≤ MOST_COORDINATE }
+        requires wide { edge_count sides.now ≤ MOST_COORDINATE }
 
         ensures tables { IfOk result (λ t. AreTablesBy (F.post w.now.closure) sides.now t.heights t.columns) }
         ensures laid { IfOk result (λ t. IsLaidOut sides.now t.heights t.columns) }

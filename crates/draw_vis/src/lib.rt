@@ -1,8 +1,6 @@
 //! Pictures of planar st-graphs by visibility: vertices as level bars, and edges as upright lines or as boxes.
 #![tactic(auto)]
 
-#[cfg(test)]
-mod drawing_tests;
 mod grid;
 pub mod laws;
 mod tiles;

@@ -1,5 +1,6 @@
 //! Tessellation: vertices as level bars, edges as boxes, the nodes of the dual as upright lines.
 ghost use Rattle.std.specs.Prelude.{◌≡◌, ◌+◌, ◌*◌, ◌<◌, ◌≤◌, ◌^◌, ◌++◌, length, IfOk, OnOk};
+ghost use Rattle.st_ids.specs.declared.limits.TheConstants.{MOST_COORDINATE};
 ghost use Rattle.draw_vis.specs.Rows.{IsTessellated};
 ghost use Rattle.draw_vis.specs.Tables.{IsLaidOut, frame_of};
 ghost use Rattle.draw_vis.specs.Tessellation.{IsTessellationBy, box, boxes, full_bar, post};
@@ -29,7 +30,7 @@ use std::alloc::Global;
 /// The column of a face is the greatest number of edges that a walk from the left half of the outer face to it crosses.
 ///
 /// Conditions: the sides are those of the graph, the names are for it, the weights are for its number of edges; there are
-/// at most 50,000,000 edges, and at most 50,000,000 vertices times the greatest weight.
+/// at most `MOST_COORDINATE` edges, and at most `MOST_COORDINATE` vertices times the greatest weight.
 /// Errors: `NoMemory`.
 /// Cost: O(V + E) time, one call of the closure an edge, and the memory of the picture beside two tables. Not proved.
 pub fn tessellation<F: Fn(EdgeId) -> u32>(
@@ -43,8 +44,8 @@ pub fn tessellation<F: Fn(EdgeId) -> u32>(
     requires names { AreNames sides.now names.now }
     requires weights { w.now.edges ≡ edge_count sides.now }
     requires lawful { IsLawful F.pre F.post w.now }
-    requires high { sides.now.vertices * w.now.most ≤ 50000000 }
-    requires wide { edge_count sides.now ≤ 50000000 }
+    requires high { sides.now.vertices * w.now.most ≤ MOST_COORDINATE }
+    requires wide { edge_count sides.now ≤ MOST_COORDINATE }
 
     ensures picture { IfOk result (IsTessellationBy (F.post w.now.closure) sides.now names.now) }
     ensures tiles { IfOk result (IsTessellated sides.now) }
@@ -158,7 +159,7 @@ fn push_posts(picture: &mut Picture, sides: &Sides, grid: &Grid) -> Result<(), N
 fn boxes(alloc: Global, sides: &Sides, grid: &Grid, names: &Names) -> Result<Picture, NoMemory>
     requires names { AreNames sides.now names.now }
     requires tables { IsLaidOut sides.now grid.now.heights grid.now.columns }
-    requires few { edge_count sides.now ≤ 50000000 }
+    requires few { edge_count sides.now ≤ MOST_COORDINATE }
     ensures { IfOk result (λ d. d ≡ boxes sides.now names.now (number_at grid.now.heights) (number_at grid.now.columns)) }
 {
     sides.facts();

@@ -1,5 +1,6 @@
 //! Visibility: vertices as level bars, edges as upright lines.
 ghost use Rattle.std.specs.Prelude.{◌≡◌, ◌*◌, ◌≤◌, IfOk};
+ghost use Rattle.st_ids.specs.declared.limits.TheConstants.{MOST_COORDINATE};
 ghost use Rattle.draw_vis.specs.Tables.{AreLeftColumns, IsLaidOut};
 ghost use Rattle.draw_vis.specs.Visibility.{IsVisibilityBy};
 ghost use Rattle.st_number.specs.Weighing.{IsLawful};
@@ -27,7 +28,7 @@ use std::alloc::Global;
 /// The column of a face is the greatest number of edges that a walk from the left half of the outer face to it crosses.
 ///
 /// Conditions: the sides are those of the graph, the names are for it, the weights are for its number of edges; there are
-/// at most 50,000,000 edges, and at most 50,000,000 vertices times the greatest weight.
+/// at most `MOST_COORDINATE` edges, and at most `MOST_COORDINATE` vertices times the greatest weight.
 /// Errors: `NoMemory`.
 /// Cost: O(V + E) time, one call of the closure an edge, and the memory of the picture beside three tables. Not proved.
 pub fn visibility<F: Fn(EdgeId) -> u32>(
@@ -41,8 +42,8 @@ pub fn visibility<F: Fn(EdgeId) -> u32>(
     requires names { AreNames sides.now names.now }
     requires weights { w.now.edges ≡ edge_count sides.now }
     requires lawful { IsLawful F.pre F.post w.now }
-    requires high { sides.now.vertices * w.now.most ≤ 50000000 }
-    requires wide { edge_count sides.now ≤ 50000000 }
+    requires high { sides.now.vertices * w.now.most ≤ MOST_COORDINATE }
+    requires wide { edge_count sides.now ≤ MOST_COORDINATE }
 
     ensures picture { IfOk result (IsVisibilityBy (F.post w.now.closure) sides.now names.now) }
     ensures drawn { IfOk result (IsDrawn sides.now) }
