@@ -1,20 +1,13 @@
--- Dots and lines from their parts.
---   dot_of        a dot that has this name and place
+-- Lines from their parts.
 --   bent_of       the points of a line between the dots of its ends
 --   rises         the head of an edge stands higher than its tail
 use Rattle.std.proofs.Common.{ℕ, List, ◌≡◌, ◌<◌, ℤ, pos, ◌<ℤ◌, sym, ap, ◌∙◌, subst}
-use Rattle.st_ids.specs.declared.names.Names.{Names}
-use Rattle.st_shape.specs.declared.item.Item.TheVariants.{Dot}
 use Rattle.st_shape.specs.declared.point.Point.{Point}
 use Rattle.st_sides.specs.Sides.{SidesValue, edge_count, edge_tail, edge_head, face_left}
 use Rattle.st_picture.specs.Growing.{GrowsUp}
 use Rattle.st_picture.specs.Items.{at}
-use Rattle.st_picture.specs.Naming.{vertex_name}
 use Rattle.st_picture.proofs.NaturalLemmas.{pos_less}
-use Rattle.draw_poly.specs.Polyline.{bends, bent, dot, dot_place}
-
-pub dot_of : (N : Names) (p y : ℕ → ℕ) (v : ℕ) (n : ℤ) (q : Point) → n ≡ vertex_name N v → q ≡ dot_place p y v → Dot n q ≡ dot N p y v
-dot_of N p y v n q e f = λ i. Dot (e i) (f i)
+use Rattle.draw_poly.specs.Polyline.{bends, bent, dot_place}
 
 -- what a function gives on the ends of an edge, which are known by number
 pub bent_of : (g : SidesValue) (y c p : ℕ → ℕ) (e t h f : ℕ) (low high : Point) (x : ℤ) (ps : List Point)

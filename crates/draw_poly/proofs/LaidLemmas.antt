@@ -6,6 +6,7 @@
 --   drawn_by        so they are drawn right
 use Rattle.std.proofs.Common.{ℕ, List, ◌≡◌, ◌<◌, ◌≤◌, ◌+◌, ◌-◌, ◌*◌, ℤ, arith, sym, ap, ◌∙◌, subst, length}
 use Rattle.std.proofs.lemmas.Nat.{mul-le}
+use Rattle.st_ids.specs.declared.limits.TheConstants.{MOST_COORDINATE}
 use Rattle.st_ids.specs.declared.ids.EdgeId.{EdgeId}
 use Rattle.st_ids.specs.declared.names.Names.{Names}
 use Rattle.st_ids.specs.Graph.{tail_of, head_of}
@@ -75,7 +76,7 @@ module _ (E : Embedded) (s t outer : ℕ) (g : SidesValue) (Q : IsSidesOf E s t 
         placed = P;
       }
 
-      pub tables_are : g.vertices * most ≤ 50000000 → edge_count g ≤ 50000000 → AreTables g hs cs ps
+      pub tables_are : g.vertices * most ≤ MOST_COORDINATE → edge_count g ≤ MOST_COORDINATE → AreTables g hs cs ps
       tables_are high wide =
           let top : number_at hs g.sink ≤ (g.vertices - 1) * most = (bounds_law g S).heights H.weight most (λ e a. H.to_most e (there e a)) g.sink (number_at hs g.sink) (numbers.height g.sink (sink_in g S)) in
           let less : (g.vertices - 1) * most ≤ g.vertices * most = mul-le (g.vertices - 1) most g.vertices most (omega arith) (omega arith) in

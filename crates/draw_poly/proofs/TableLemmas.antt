@@ -11,6 +11,7 @@ use Rattle.std.proofs.lemmas.Bool.{cases_lt}
 use Rattle.std.proofs.lemmas.Int.{ints}
 use Rattle.std.proofs.lemmas.List.{length-append}
 use Rattle.std.proofs.lemmas.Option.{get_or_from_slice_get}
+use Rattle.st_ids.specs.declared.limits.TheConstants.{MOST_COORDINATE}
 use Rattle.st_sides.specs.Objects.{vertex}
 use Rattle.st_sides.specs.Sides.{SidesValue, edge_count, left_of, right_of, IsSides}
 use Rattle.st_sides.proofs.ExclusiveLemmas.{left_below}
@@ -39,7 +40,7 @@ pub record Ends (g : SidesValue) (c : ℕ → ℕ) (v : ℕ) (lo hi : ℤ) : Typ
   pub lo_is : lo ≡ pos (c (left_of g v))
   pub hi_is : hi ≡ pos (c (right_of g v))
   pub wide : c (left_of g v) < c (right_of g v)
-  pub few : c (right_of g v) ≤ 50000000
+  pub few : c (right_of g v) ≤ MOST_COORDINATE
 
 module _ (g : SidesValue) (S : IsSides g) (cs : List ℤ) (C : AreColumns g cs) where
   pub has_columns : Has cs (g.t_star + 1) C.column
@@ -69,7 +70,7 @@ module _ (g : SidesValue) (S : IsSides g) (cs : List ℤ) (C : AreColumns g cs) 
   column_is : (f h : ℕ) (z : ℤ) → f ≤ g.t_star → h ≡ f → slice_get cs h ≡ Some z → z ≡ pos (number_at cs f)
   column_is f h z l q r = some_same z (pos (number_at cs f)) (sym r ∙ ap (slice_get cs) q ∙ C.at f l ∙ ap (λ k. Some (pos k)) (sym (number_of cs (g.t_star + 1) C.column has_columns f (omega arith))))
 
-  pub ends_of : edge_count g ≤ 50000000 → (v f h : ℕ) (lo hi : ℤ) → v < g.vertices → f ≡ left_of g v → h ≡ right_of g v → slice_get cs f ≡ Some lo → slice_get cs h ≡ Some hi → Ends g (number_at cs) v lo hi
+  pub ends_of : edge_count g ≤ MOST_COORDINATE → (v f h : ℕ) (lo hi : ℤ) → v < g.vertices → f ≡ left_of g v → h ≡ right_of g v → slice_get cs f ≡ Some lo → slice_get cs h ≡ Some hi → Ends g (number_at cs) v lo hi
   ends_of few v f h lo hi i p q r s =
       let l : left_of g v < g.t_star = left_below g S (vertex v) i in
       let m : right_of g v ≤ g.t_star = right_in g S v i in
@@ -89,7 +90,7 @@ before_is z k l m q = omega (arith, ints)
 pub last_is : (g : SidesValue) (c : ℕ → ℕ) (v : ℕ) (lo hi : ℤ) → Ends g c v lo hi → hi -ℤ pos 1 ≡ pos (c (right_of g v) - 1)
 last_is g c v lo hi E = before_is hi (c (right_of g v)) (c (left_of g v)) E.wide E.hi_is
 
-between : (a b : ℕ) → a < b → b ≤ 50000000 → AreEnds (pos a) (pos (b - 1))
+between : (a b : ℕ) → a < b → b ≤ MOST_COORDINATE → AreEnds (pos a) (pos (b - 1))
 between a b h k = record { from_zero = omega (arith, ints); in_order = omega (arith, ints); to_greatest = omega (arith, ints) }
 
 pub are_ends : (g : SidesValue) (c : ℕ → ℕ) (v : ℕ) (lo hi : ℤ) → Ends g c v lo hi → AreEnds lo (hi -ℤ pos 1)
@@ -120,7 +121,7 @@ is_place place g c v lo hi x E a l m =
       answer = subst (place (pos (c (left_of g v))) (pos (c (right_of g v) - 1))) q (subst (λ z. place (pos (c (left_of g v))) z x) b (subst (λ z. place z (hi -ℤ pos 1) x) E.lo_is a));
     }
 
-few_fit : (n : ℕ) → n ≤ 50000000 → FitsSigned w64 (pos n)
+few_fit : (n : ℕ) → n ≤ MOST_COORDINATE → FitsSigned w64 (pos n)
 few_fit n l = record { sfits = omega arith }
 
 pub last_fits : (g : SidesValue) (c : ℕ → ℕ) (v : ℕ) (lo hi : ℤ) → Ends g c v lo hi → FitsSigned w64 (hi -ℤ pos 1)

@@ -3,6 +3,7 @@
 --   AreEnds lo hi                both are columns of a picture, and lo is not after hi
 --   IsPlacement pre post p       between any two ends the closure may be called, and it answers a column between them
 use Rattle.std.specs.Prelude.{ℤ, pos, ◌≤ℤ◌}
+use Rattle.st_ids.specs.declared.limits.TheConstants.{MOST_COORDINATE}
 
 -- A closure.
 pub record PlacerValue (F : Type 0) : Type 0 where
@@ -12,7 +13,7 @@ pub record PlacerValue (F : Type 0) : Type 0 where
 pub record AreEnds (lo hi : ℤ) : Type 0 where
   pub from_zero : pos 0 ≤ℤ lo
   pub in_order : lo ≤ℤ hi
-  pub to_greatest : hi ≤ℤ pos 50000000
+  pub to_greatest : hi ≤ℤ pos MOST_COORDINATE
 
 -- Between any two ends the closure may be called, and what it answers lies from one to the other.
 pub record IsPlacement {F : Type 0} (pre : F → ℤ → ℤ → Type 0) (post : F → ℤ → ℤ → ℤ → Type 0) (p : PlacerValue F) : Type 0 where

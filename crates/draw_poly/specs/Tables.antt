@@ -6,6 +6,7 @@
 --   AreTables ..                   natural numbers that keep lines apart, in a picture's range
 -- Letters: g sides, c columns, v vertex, place what the closure may answer.
 use Rattle.std.specs.Prelude.{ℕ, ℤ, pos, ◌≡◌, ◌+◌, ◌-◌, ◌<◌, ◌≤◌, List, length, slice_get, Some}
+use Rattle.st_ids.specs.declared.limits.TheConstants.{MOST_COORDINATE}
 use Rattle.st_ids.specs.declared.ids.EdgeId.{EdgeId}
 use Rattle.st_sides.specs.Sides.{SidesValue, edge_count, left_of, right_of}
 use Rattle.st_number.specs.Numbers.{AreNumbers}
@@ -48,5 +49,5 @@ pub record AreTables (g : SidesValue) (heights columns places : List ℤ) : Type
   pub columns_are : HasNaturals columns (g.t_star + 1)
   pub places_are : HasNaturals places g.vertices
   pub tracks : AreTracks g (number_at heights) (number_at columns) (number_at places)
-  pub high : number_at heights g.sink ≤ 50000000
-  pub wide : number_at columns g.t_star ≤ 50000000
+  pub high : number_at heights g.sink ≤ MOST_COORDINATE
+  pub wide : number_at columns g.t_star ≤ MOST_COORDINATE

@@ -1,5 +1,6 @@
 //! Polyline pictures: vertices as dots, edges as lines with at most two bends.
 ghost use Rattle.std.specs.Prelude.{◌≡◌, ◌*◌, ◌≤◌, IfOk};
+ghost use Rattle.st_ids.specs.declared.limits.TheConstants.{MOST_COORDINATE};
 ghost use Rattle.draw_poly.specs.Numbers.{IsLongOnParallels};
 ghost use Rattle.draw_poly.specs.Placing.{IsPlacement};
 ghost use Rattle.draw_poly.specs.Polyline.{IsPolylineBy};
@@ -29,8 +30,8 @@ use std::alloc::Global;
 /// The column of a face is the greatest number of edges that a walk from the left half of the outer face to it crosses.
 ///
 /// Conditions: the sides are those of the graph, the names are for it, the weights are for its number of edges; each edge
-/// that has a parallel weighs 2 or more; there are at most 50,000,000 edges, and at most 50,000,000 vertices times the
-/// greatest weight.
+/// that has a parallel weighs 2 or more; there are at most `MOST_COORDINATE` edges, and at most `MOST_COORDINATE` vertices
+/// times the greatest weight.
 /// Errors: `NoMemory`.
 /// Cost: O(V + E) time, one call of the weights an edge and one of the placement a vertex, and the memory of the picture
 /// beside three tables. Not proved.
@@ -48,8 +49,8 @@ pub fn polyline<F: Fn(EdgeId) -> u32, G: Fn(i64, i64) -> i64>(
     requires lawful { IsLawful F.pre F.post w.now }
     requires long { IsLongOnParallels (F.post w.now.closure) graph.now.map.graph }
     requires placement { IsPlacement G.pre G.post placer.now }
-    requires high { sides.now.vertices * w.now.most ≤ 50000000 }
-    requires wide { edge_count sides.now ≤ 50000000 }
+    requires high { sides.now.vertices * w.now.most ≤ MOST_COORDINATE }
+    requires wide { edge_count sides.now ≤ MOST_COORDINATE }
 
     ensures picture { IfOk result (IsPolylineBy (F.post w.now.closure) (G.post placer.now.closure) sides.now names.now) }
     ensures drawn { IfOk result (IsDrawn sides.now) }

@@ -1,5 +1,6 @@
 //! Heights, columns and places of a graph as tables.
 ghost use Rattle.std.specs.Prelude.{◌≡◌, ◌*◌, ◌<◌, ◌≤◌, ◌≤ℤ◌, length, pos, slice_index_or, IfOk};
+ghost use Rattle.st_ids.specs.declared.limits.TheConstants.{MOST_COORDINATE};
 ghost use Rattle.draw_poly.specs.Numbers.{IsLongOnParallels};
 ghost use Rattle.draw_poly.specs.Placing.{IsPlacement};
 ghost use Rattle.draw_poly.specs.Polyline.{corner_of, dot_place};
@@ -41,8 +42,8 @@ impl Grid {
         requires lawful { IsLawful F.pre F.post w.now }
         requires long { IsLongOnParallels (F.post w.now.closure) graph.now.map.graph }
         requires placement { IsPlacement G.pre G.post placer.now }
-        requires high { sides.now.vertices * w.now.most ≤ 50000000 }
-        requires wide { edge_count sides.now ≤ 50000000 }
+        requires high { sides.now.vertices * w.now.most ≤ MOST_COORDINATE }
+        requires wide { edge_count sides.now ≤ MOST_COORDINATE }
 
         ensures by { IfOk result (λ t. AreTablesBy (F.post w.now.closure) (G.post placer.now.closure) sides.now t.heights t.columns t.places) }
         ensures tables { IfOk result (λ t. AreTables sides.now t.heights t.columns t.places) }

@@ -1,16 +1,15 @@
 //! The items of a polyline picture: dots, lines and labels.
-ghost use Rattle.std.specs.Prelude.{◌≡◌, ℕ, ◌+◌, ◌<◌, ◌≤◌, ◌^◌, ◌++◌, ◌<ℤ◌, length, pos, IfOk, OnOk};
-ghost use Rattle.draw_poly.specs.Polyline.{bends, bent, corner_of, dot, polylines};
+ghost use Rattle.std.specs.Prelude.{◌≡◌, ℕ, ◌+◌, ◌<◌, ◌^◌, ◌<ℤ◌, pos, IfOk};
+ghost use Rattle.draw_poly.specs.Polyline.{bends, bent, dot, polylines};
 ghost use Rattle.draw_poly.specs.Tables.{AreTables};
 ghost use Rattle.st_picture.specs.Bars.{number_at};
-ghost use Rattle.st_picture.specs.Items.{at, each, line};
+ghost use Rattle.st_picture.specs.Items.{at, line};
 ghost use Rattle.st_picture.specs.Naming.{AreNames};
-ghost use Rattle.st_shape.specs.Rules.{FitsFrame};
 ghost use Rattle.st_sides.specs.Sides.{edge_count};
 
 use crate::grid::Grid;
 use st_ids::{EdgeId, Names, NoMemory, VertexId};
-use st_picture::{push_each, push_labels};
+use st_picture::{compose, dot, line};
 use st_shape::{Form, Item, Picture, Point, Points};
 use st_sides::{Sides, laws};
 use std::alloc::Global;
@@ -33,16 +32,13 @@ fn bends(alloc: Global, low: Point, high: Point, x: i64) -> Points
 }
 
 /// The vertex as a dot.
-fn dot(sides: &Sides, grid: &Grid, names: &Names, v: VertexId) -> Item
+fn dot_of(sides: &Sides, grid: &Grid, names: &Names, v: VertexId) -> Item
     requires there { v.0 < sides.now.vertices }
     requires names { AreNames sides.now names.now }
     requires tables { AreTables sides.now grid.now.heights grid.now.columns grid.now.places }
     ensures { result ≡ dot names.now (number_at grid.now.places) (number_at grid.now.heights) v.0 }
 {
-    Item::Dot {
-        name: *names.vertex.get(v),
-        p: grid.dot_place(sides, v),
-    }
+    dot(names, v, grid.dot_place(sides, v))
 }
 
 /// The edge as a line.
@@ -57,49 +53,7 @@ fn bent(alloc: Global, sides: &Sides, grid: &Grid, names: &Names, e: EdgeId) -> 
     let low = grid.dot_place(sides, tail);
     let high = grid.dot_place(sides, head);
     let x = grid.column(sides.face_left(e));
-    Item::Line {
-        name: *names.edge.get(e),
-        tail: *names.vertex.get(tail),
-        head: *names.vertex.get(head),
-        points: bends(alloc, low, high, x),
-    }
-}
-
-/// Adds the dot of each vertex.
-fn push_dots(
-    picture: &mut Picture,
-    sides: &Sides,
-    grid: &Grid,
-    names: &Names,
-) -> Result<(), NoMemory>
-    requires names { AreNames sides.now names.now }
-    requires tables { AreTables sides.now grid.now.heights grid.now.columns grid.now.places }
-    requires fits { (v : ℕ) → v < sides.now.vertices → FitsFrame picture.old.frame (dot names.now (number_at grid.now.places) (number_at grid.now.heights) v) }
-    requires room { length picture.old.items + sides.now.vertices < 2 ^ 31 }
-    ensures { OnOk result (picture.new ≡ record picture.old { items = picture.old.items ++ each (dot names.now (number_at grid.now.places) (number_at grid.now.heights)) sides.now.vertices }) }
-{
-    push_each(picture, sides.vertices(), |v| {
-        dot(sides, grid, names, VertexId(v))
-    })
-}
-
-/// Adds the line of each edge.
-fn push_lines(
-    alloc: Global,
-    picture: &mut Picture,
-    sides: &Sides,
-    grid: &Grid,
-    names: &Names,
-) -> Result<(), NoMemory>
-    requires names { AreNames sides.now names.now }
-    requires tables { AreTables sides.now grid.now.heights grid.now.columns grid.now.places }
-    requires fits { (e : ℕ) → e < edge_count sides.now → FitsFrame picture.old.frame (line sides.now names.now (bent sides.now (number_at grid.now.heights) (number_at grid.now.columns) (number_at grid.now.places)) e) }
-    requires room { length picture.old.items + edge_count sides.now < 2 ^ 31 }
-    ensures { OnOk result (picture.new ≡ record picture.old { items = picture.old.items ++ each (line sides.now names.now (bent sides.now (number_at grid.now.heights) (number_at grid.now.columns) (number_at grid.now.places))) (edge_count sides.now) }) }
-{
-    push_each(picture, sides.edges(), |e| {
-        bent(alloc, sides, grid, names, EdgeId(e))
-    })
+    line(sides, names, e, bends(alloc, low, high, x))
 }
 
 /// The picture of dots and lines of these tables.
@@ -115,8 +69,8 @@ pub(crate) fn dots_and_lines(
     ensures { IfOk result (λ d. d ≡ polylines sides.now names.now (number_at grid.now.heights) (number_at grid.now.columns) (number_at grid.now.places)) }
 {
     laws::local(sides);
-    let mut picture = Picture::new(alloc, Form::Polyline, grid.corner(sides));
-    push_dots(&mut picture, sides, grid, names)?;
-    push_lines(alloc, &mut picture, sides, grid, names)?;
-    push_labels(alloc, picture, names)
+    let frame = grid.corner(sides);
+    let figure = |v| dot_of(sides, grid, names, VertexId(v));
+    let bent = |e| bent(alloc, sides, grid, names, EdgeId(e));
+    compose(alloc, Form::Polyline, frame, sides, names, figure, bent)
 }

@@ -2,8 +2,6 @@
 #![tactic(auto)]
 
 mod drawing;
-#[cfg(test)]
-mod drawing_tests;
 mod grid;
 mod items;
 pub mod laws;

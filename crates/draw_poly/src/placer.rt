@@ -4,7 +4,7 @@ ghost use Rattle.draw_poly.specs.Placing.{AreEnds, IsPlacement};
 
 use std::marker::Model;
 
-/// A closure that answers a column from `lo` to `hi` for `0 <= lo <= hi <= 50,000,000`. A contract sees the record
+/// A closure that answers a column from `lo` to `hi` for `0 <= lo <= hi <= MOST_COORDINATE`. A contract sees the record
 /// `PlacerValue`.
 ///
 /// A closure could have several lawful answers for one pair: a call that takes a `Placer` asks once for each vertex, and its

@@ -1,5 +1,6 @@
 //! A column for each vertex, between the ends of its bar.
 ghost use Rattle.std.specs.Prelude.{◌<◌, ◌≤◌, IfOk};
+ghost use Rattle.st_ids.specs.declared.limits.TheConstants.{MOST_COORDINATE};
 ghost use Rattle.draw_poly.specs.Placing.{IsPlacement};
 ghost use Rattle.draw_poly.specs.Tables.{ArePlaces, IsPlace};
 ghost use Rattle.st_number.specs.Heights.{AreColumns};
@@ -20,7 +21,7 @@ fn place<G: Fn(i64, i64) -> i64>(
 ) -> i64
     requires there { v.0 < sides.now.vertices }
     requires columns { AreColumns sides.now columns.now }
-    requires wide { edge_count sides.now ≤ 50000000 }
+    requires wide { edge_count sides.now ≤ MOST_COORDINATE }
     requires lawful { IsPlacement G.pre G.post placer.now }
     ensures { IsPlace (G.post placer.now.closure) sides.now (number_at columns.now) v.0 result }
 {
@@ -39,7 +40,7 @@ pub(crate) fn places<G: Fn(i64, i64) -> i64>(
     placer: &Placer<G>,
 ) -> Result<IdVec<VertexId, i64>, NoMemory>
     requires columns { AreColumns sides.now columns.now }
-    requires wide { edge_count sides.now ≤ 50000000 }
+    requires wide { edge_count sides.now ≤ MOST_COORDINATE }
     requires lawful { IsPlacement G.pre G.post placer.now }
     ensures { IfOk result (ArePlaces (G.post placer.now.closure) sides.now (number_at columns.now) sides.now.vertices) }
 {

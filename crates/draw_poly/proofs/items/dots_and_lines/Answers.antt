@@ -1,77 +1,61 @@
-use Rattle.std.proofs.Common.{length}
+use Rattle.std.proofs.Common.{◌≡◌, rules, sym, subst, ap, ◌∙◌}
 use Rattle.std.proofs.lemmas.Result.{IfOk-weaker}
+use Rattle.st_shape.specs.declared.picture.Form.TheVariants.{Polyline}
+use Rattle.st_shape.specs.declared.point.Point.{Point}
+use Rattle.st_shape.specs.Rules.{FitsFrame}
 use Rattle.st_picture.specs.Bars.{number_at}
-use Rattle.st_picture.proofs.NameLemmas.{has_labels}
-use Rattle.draw_poly.proofs.BuildLemmas.{begun_is, dotted_is, lined_is, dots_fit, lines_fit, dotted_room, lined_room, figures_are, whole}
+use Rattle.st_picture.specs.Items.{drawing, line, place_of}
+use Rattle.draw_poly.specs.Polyline.{bent, corner_of, dot, dot_place, polylines}
+use Rattle.draw_poly.proofs.BendLemmas.{dot_inside, line_fits}
 use Rattle.draw_poly.proofs.items.dots_and_lines.Goals as goal
 
-pub push_dots-requires-clause-fits : goal.push_dots-requires-clause-fits
-push_dots-requires-clause-fits c =
-    let g = c.args.sides.now in
+pub compose-requires-clause-items : goal.compose-requires-clause-items
+compose-requires-clause-items c =
+    let S = c.args.sides.now in
     let N = c.args.names.now in
     let y = number_at c.args.grid.now.heights in
     let x = number_at c.args.grid.now.columns in
     let p = number_at c.args.grid.now.places in
-    let p0 = begun_is g N y x p c.new-picture.result c.corner.result c.corner.ensures c.new-picture.ensures in
-    dots_fit g N y x p c.local.ensures c.requires.names c.requires.tables.tracks c.new-picture.result p0
-
-pub push_lines-requires-clause-fits : goal.push_lines-requires-clause-fits
-push_lines-requires-clause-fits c =
-    let g = c.args.sides.now in
-    let N = c.args.names.now in
-    let y = number_at c.args.grid.now.heights in
-    let x = number_at c.args.grid.now.columns in
-    let p = number_at c.args.grid.now.places in
-    let p0 = begun_is g N y x p c.new-picture.result c.corner.result c.corner.ensures c.new-picture.ensures in
-    let p1 = dotted_is g N y x p c.new-picture.result c.push_dots.new.picture p0 c.in_ok-push_dots.ensures in
-    lines_fit g N y x p c.local.ensures c.requires.names c.requires.tables.tracks c.push_dots.new.picture p1
-
-pub push_lines-requires-clause-room : goal.push_lines-requires-clause-room
-push_lines-requires-clause-room c =
-    let g = c.args.sides.now in
-    let N = c.args.names.now in
-    let y = number_at c.args.grid.now.heights in
-    let x = number_at c.args.grid.now.columns in
-    let p = number_at c.args.grid.now.places in
-    let p0 = begun_is g N y x p c.new-picture.result c.corner.result c.corner.ensures c.new-picture.ensures in
-    let p1 = dotted_is g N y x p c.new-picture.result c.push_dots.new.picture p0 c.in_ok-push_dots.ensures in
-    dotted_room g N y x p c.push_dots.new.picture p1 c.requires.room
-
-pub push_labels-requires-clause-names : goal.push_labels-requires-clause-names
-push_labels-requires-clause-names c = has_labels c.args.sides.now c.args.names.now c.requires.names
-
-pub push_labels-requires-clause-figures : goal.push_labels-requires-clause-figures
-push_labels-requires-clause-figures c =
-    let g = c.args.sides.now in
-    let N = c.args.names.now in
-    let y = number_at c.args.grid.now.heights in
-    let x = number_at c.args.grid.now.columns in
-    let p = number_at c.args.grid.now.places in
-    let p0 = begun_is g N y x p c.new-picture.result c.corner.result c.corner.ensures c.new-picture.ensures in
-    let p1 = dotted_is g N y x p c.new-picture.result c.push_dots.new.picture p0 c.in_ok-push_dots.ensures in
-    let p2 = lined_is g N y x p c.push_dots.new.picture c.push_lines.new.picture p1 c.in_ok-push_lines.ensures in
-    figures_are g N y x p c.push_lines.new.picture (length N.label) p2 c.requires.names.labels
-
-pub push_labels-requires-clause-room : goal.push_labels-requires-clause-room
-push_labels-requires-clause-room c =
-    let g = c.args.sides.now in
-    let N = c.args.names.now in
-    let y = number_at c.args.grid.now.heights in
-    let x = number_at c.args.grid.now.columns in
-    let p = number_at c.args.grid.now.places in
-    let p0 = begun_is g N y x p c.new-picture.result c.corner.result c.corner.ensures c.new-picture.ensures in
-    let p1 = dotted_is g N y x p c.new-picture.result c.push_dots.new.picture p0 c.in_ok-push_dots.ensures in
-    let p2 = lined_is g N y x p c.push_dots.new.picture c.push_lines.new.picture p1 c.in_ok-push_lines.ensures in
-    lined_room g N y x p c.push_lines.new.picture (length N.label) p2 c.requires.names.labels c.requires.room
+    let T = c.requires.tables.tracks in
+    let q : c.corner-frame.result ≡ corner_of S y x = c.corner-frame.ensures in (
+      dot N p y,
+      bent S y x p,
+      record {
+        figures = record {
+          callable = λ v l. search rules;
+          answers = λ v z l h. search rules;
+          fits = λ v l. subst (λ (z : Point). FitsFrame z (dot N p y v)) (sym q) (dot_inside S c.local.ensures y x p T N c.requires.names v l);
+        };
+        kind = λ v l. tt;
+        lines = record {
+          callable = λ e l. search rules;
+          answers = λ e z l h. search rules;
+          fits = λ e l. subst (λ (z : Point). FitsFrame z (line S N (bent S y x p) e)) (sym q) (line_fits S c.local.ensures y x p T N c.requires.names e l);
+        };
+      },
+    )
 
 pub returns : goal.returns
 returns c =
-    let g = c.args.sides.now in
+    let S = c.args.sides.now in
     let N = c.args.names.now in
     let y = number_at c.args.grid.now.heights in
     let x = number_at c.args.grid.now.columns in
     let p = number_at c.args.grid.now.places in
-    let p0 = begun_is g N y x p c.new-picture.result c.corner.result c.corner.ensures c.new-picture.ensures in
-    let p1 = dotted_is g N y x p c.new-picture.result c.push_dots.new.picture p0 c.in_ok-push_dots.ensures in
-    let p2 = lined_is g N y x p c.push_dots.new.picture c.push_lines.new.picture p1 c.in_ok-push_lines.ensures in
-    IfOk-weaker c.push_labels.result _ _ (λ d q. whole g N y x p c.push_lines.new.picture d (length N.label) p2 c.requires.names.labels q) c.push_labels.ensures
+    let T = c.requires.tables.tracks in
+    let q : c.corner-frame.result ≡ corner_of S y x = c.corner-frame.ensures in
+    IfOk-weaker c.compose.result (λ d. d ≡ drawing S N Polyline c.corner-frame.result (dot N p y) (bent S y x p) (λ v. place_of (dot N p y v))) (λ d. d ≡ polylines S N y x p)
+    (λ d r. r ∙ ap (λ z. drawing S N Polyline z (dot N p y) (bent S y x p) (dot_place p y)) q)
+    (c.compose.ensures (dot N p y) (bent S y x p) (record {
+      figures = record {
+        callable = λ v l. search rules;
+        answers = λ v z l h. search rules;
+        fits = λ v l. subst (λ (z : Point). FitsFrame z (dot N p y v)) (sym q) (dot_inside S c.local.ensures y x p T N c.requires.names v l);
+      };
+      kind = λ v l. tt;
+      lines = record {
+        callable = λ e l. search rules;
+        answers = λ e z l h. search rules;
+        fits = λ e l. subst (λ (z : Point). FitsFrame z (line S N (bent S y x p) e)) (sym q) (line_fits S c.local.ensures y x p T N c.requires.names e l);
+      };
+    }))
