@@ -5,6 +5,7 @@
 use Rattle.std.proofs.Common.{ℕ, suc, List, [], ◌∷◌, ◌++◌, ◌≡◌, ◌<◌, ◌≤◌, ◌+◌, ◌-◌, ◌^◌, inl, inr, refl, sym, ap, ◌∙◌, subst, arith, cond, length, get_or}
 use Rattle.std.proofs.lemmas.Bool.{cases_lt, lt-ltb, le-ltb}
 use Rattle.std.proofs.lemmas.List.{get_or_append_left, get_or_push, length_push}
+use Rattle.st_ids.specs.declared.limits.TheConstants.{MOST_COORDINATE}
 use Rattle.st_ids.specs.Graph.{Graph, tail_of, head_of, arcs_of}
 use Rattle.st_ids.specs.Lists.{In, NoRepeat, here, there}
 use Rattle.st_ids.specs.Walks.{Walk, stay, step, IsAcyclic}
@@ -189,7 +190,7 @@ pub counts : (g : SidesValue) → IsHeld g → g.vertices + g.t_star ≡ edge_co
 unfolding edge_count
 counts g H = omega (arith, H.own.planar.euler, H.own.sides.nodes)
 
-pub node_count : (g : SidesValue) → IsHeld g → IsSides g → (ps : List (List ℕ)) → length ps ≤ edge_count g → edge_count g ≤ 50000000 → (homes : List ℕ) (next : ℕ) → HasPaths g ps homes next → g.t_star + 1 + next < 2 ^ 30
+pub node_count : (g : SidesValue) → IsHeld g → IsSides g → (ps : List (List ℕ)) → length ps ≤ edge_count g → edge_count g ≤ MOST_COORDINATE → (homes : List ℕ) (next : ℕ) → HasPaths g ps homes next → g.t_star + 1 + next < 2 ^ 30
 node_count g H S ps few wide homes next P =
     let c : g.vertices + g.t_star ≡ edge_count g + 2 = counts g H in
     let k : next ≤ length ps + edge_count g = P.few in

@@ -7,6 +7,7 @@ use Rattle.std.proofs.Math.ListN.{get_or-map}
 use Rattle.std.proofs.lemmas.Int.{ints}
 use Rattle.std.proofs.lemmas.List.{length-map}
 use Rattle.std.proofs.lemmas.Nat.{mul-le}
+use Rattle.st_ids.specs.declared.limits.TheConstants.{MOST_COORDINATE}
 use Rattle.st_ids.specs.declared.ids.EdgeId.{EdgeId}
 use Rattle.st_ids.specs.declared.names.Names.{Names}
 use Rattle.st_ids.specs.Lists.{In}
@@ -117,7 +118,7 @@ module _ (E : Embedded) (s t outer : ℕ) (g : SidesValue) (Q : IsSidesOf E s t 
       };
     }
 
-    pub frame_of : g.vertices * most ≤ 50000000 → edge_count g ≤ 50000000 → HasFrame g hs table
+    pub frame_of : g.vertices * most ≤ MOST_COORDINATE → edge_count g ≤ MOST_COORDINATE → HasFrame g hs table
     frame_of high wide = record {
       wide = (let a : get_or cs g.t_star 0 ≤ edge_count g = C.few g.t_star (omega arith) in let b : number_at table g.t_star ≡ get_or cs g.t_star 0 = number_is g.t_star in omega arith);
       high =

@@ -1,5 +1,6 @@
 //! The alignment graph, whose greatest weights of walks are the columns.
 ghost use Rattle.std.specs.Prelude.{◌≡◌, ◌+◌, ◌<◌, ◌≤◌, ◌^◌, length, slice_index, IfOk, OnOk};
+ghost use Rattle.st_ids.specs.declared.limits.TheConstants.{MOST_COORDINATE};
 ghost use Rattle.draw_align.specs.Built.{AreArcWeights, AreNodeColumns, HasHomes, IsBuilt, arc_from, arc_to};
 ghost use Rattle.draw_align.specs.Homes.{HasPaths};
 ghost use Rattle.draw_align.specs.Listed.{AreSound};
@@ -93,7 +94,7 @@ pub(crate) fn columns_of(
 ) -> Result<IdVec<VertexId, u64>, NoMemory>
     requires sound { AreSound sides.now paths.now (length paths.now) }
     requires few { length paths.now ≤ edge_count sides.now }
-    requires wide { edge_count sides.now ≤ 50000000 }
+    requires wide { edge_count sides.now ≤ MOST_COORDINATE }
     requires paths { HasPaths sides.now paths.now homes.now.table homes.now.count }
     ensures { IfOk result (AreNodeColumns sides.now paths.now homes.now.table homes.now.count) }
 {

@@ -8,8 +8,6 @@ mod faults;
 mod homes;
 pub mod laws;
 mod path_fault;
-#[cfg(test)]
-mod path_tests;
 mod picture;
 mod steps;
 mod walking;

@@ -1,5 +1,6 @@
 //! Constrained visibility: vertices as level bars, edges as upright lines, the edges of each listed path in one column.
 ghost use Rattle.std.specs.Prelude.{◌≡◌, ◌+◌, ◌*◌, ◌<◌, ◌≤◌, pos, length, slice_index_or, IfOk, IfErr, OnOk};
+ghost use Rattle.st_ids.specs.declared.limits.TheConstants.{MOST_COORDINATE};
 ghost use Rattle.draw_align.specs.Built.{AreLines, HasHomes};
 ghost use Rattle.draw_align.specs.Constrained.{IsAligned, IsConstrainedBy};
 ghost use Rattle.draw_align.specs.Faults.{AreThere, IsPathFault};
@@ -61,7 +62,7 @@ fn lines_of(
 /// a path of its own.
 ///
 /// Conditions: the sides are those of the graph, the names are for it, the weights are for its number of edges, each listed
-/// edge is there; there are at most 50,000,000 edges, and at most 50,000,000 vertices times the greatest weight.
+/// edge is there; there are at most `MOST_COORDINATE` edges, and at most `MOST_COORDINATE` vertices times the greatest weight.
 /// Errors: `NotAPath`, `SharedEdge` and `Crossing` exactly where each is the first fault, path by path, and for each path in
 /// this order; `NoMemory`.
 /// Cost: O(V + E) time, or O((V + E) log P) where two of P paths cross; one call of the closure an edge, and the memory of the
@@ -78,8 +79,8 @@ pub fn constrained<F: Fn(EdgeId) -> u32>(
     requires names { AreNames sides.now names.now }
     requires weights { w.now.edges ≡ edge_count sides.now }
     requires lawful { IsLawful F.pre F.post w.now }
-    requires high { sides.now.vertices * w.now.most ≤ 50000000 }
-    requires wide { edge_count sides.now ≤ 50000000 }
+    requires high { sides.now.vertices * w.now.most ≤ MOST_COORDINATE }
+    requires wide { edge_count sides.now ≤ MOST_COORDINATE }
     requires edges { AreThere sides.now paths.now }
 
     ensures picture { IfOk result (IsConstrainedBy (F.post w.now.closure) sides.now paths.now names.now) }
@@ -111,8 +112,8 @@ fn draw<F: Fn(EdgeId) -> u32>(
     requires names { AreNames sides.now names.now }
     requires weights { w.now.edges ≡ edge_count sides.now }
     requires lawful { IsLawful F.pre F.post w.now }
-    requires high { sides.now.vertices * w.now.most ≤ 50000000 }
-    requires wide { edge_count sides.now ≤ 50000000 }
+    requires high { sides.now.vertices * w.now.most ≤ MOST_COORDINATE }
+    requires wide { edge_count sides.now ≤ MOST_COORDINATE }
     requires sound { AreSound sides.now paths.now (length paths.now) }
     requires few { length paths.now ≤ edge_count sides.now }
     requires paths { HasPaths sides.now paths.now homes.now.table homes.now.count }
