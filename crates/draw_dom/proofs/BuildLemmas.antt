@@ -1,24 +1,19 @@
--- Dots, lines and labels, put behind one another.
+-- The dots and lines of a dominance picture.
 --   dummy_is                      the dummy of an edge, from the table
---   begun, dotted, lined          the empty picture, that of the dots, that of dots and lines
---   begun_is, dotted_is, lined_is   what is built step by step
---   dots_fit, lines_fit           dots and lines lie in the frame
---   dotted_room, lined_room       there is room for the rest
---   figures_are, whole            the picture begins with the vertices, and with the labels it is the dominance picture
-use Rattle.std.proofs.Common.{ℕ, zero, suc, List, [], ◌∷◌, ◌++◌, ◌≡◌, ◌<◌, ◌≤◌, ◌+◌, ◌^◌, ◌⊎◌, inl, inr, refl, sym, ap, ◌∙◌, subst, arith, length, map, get_or, slice_get, Option, option_map, Some, None}
+--   dot_in, line_in               dots and lines lie in the frame
+--   dummied_some, dummied_none    the points of the line of an edge
+use Rattle.std.proofs.Common.{ℕ, zero, suc, List, [], ◌∷◌, ◌≡◌, ◌<◌, ◌≤◌, ◌⊎◌, inl, inr, refl, sym, ap, ◌∙◌, subst, arith, length, map, get_or, slice_get, Option, option_map, Some, None}
 use Rattle.std.specs.List.{AllByRecursion}
 use Rattle.st_ids.specs.declared.ids.VertexId.{VertexId}
 use Rattle.st_ids.specs.declared.names.Names.{Names}
-use Rattle.st_shape.specs.declared.picture.Form.TheVariants.{Dominance}
 use Rattle.st_shape.specs.declared.point.Point.{Point}
 use Rattle.st_shape.specs.Inside.{IsInside}
-use Rattle.st_shape.specs.Rules.{Drawing, FitsFrame}
+use Rattle.st_shape.specs.Rules.{FitsFrame}
 use Rattle.st_sides.specs.Sides.{SidesValue, edge_count, edge_tail, edge_head, IsSides}
-use Rattle.st_picture.specs.Items.{HasFigures, each, labels, line, place_at}
-use Rattle.st_picture.proofs.JoinLemmas.{start, figures, second, first_is, second_is, count_first, count_second, figures_first, drawing_is}
+use Rattle.st_picture.specs.Items.{line}
 use Rattle.st_reduce.specs.Marks.{dummy_numbers}
 use Rattle.st_reduce.specs.Reduced.{dummy_at}
-use Rattle.draw_dom.specs.Pictures.{dot, through, dummied, points_and_lines}
+use Rattle.draw_dom.specs.Pictures.{through, dummied}
 use Rattle.draw_dom.specs.Points.{point_of}
 use Rattle.draw_dom.specs.Shown.{AreDots}
 
@@ -35,37 +30,6 @@ option_cases : (o : Option ℕ) → (o ≡ None) ⊎ ((w : ℕ) × (o ≡ Some w
 option_cases None = inl refl
 option_cases (Some w) = inr (w, refl)
 
-module _ (g : SidesValue) (N : Names) (dummy : ℕ → Option ℕ) (place : ℕ → Point) where
-  abbrev pub begun : Drawing
-  begun = start g N Dominance (place g.sink) (dot N place) (dummied g dummy place)
-
-  abbrev pub dotted : Drawing
-  dotted = figures g N Dominance (place g.sink) (dot N place) (dummied g dummy place)
-
-  abbrev pub lined : Drawing
-  lined = second g N Dominance (place g.sink) (dot N place) (dummied g dummy place)
-
-  pub begun_is : (a : Drawing) (q : Point) → q ≡ place g.sink → a ≡ record { form = Dominance; frame = q; items = [] } → a ≡ begun
-  begun_is a q e f = f ∙ ap (λ z. let t : Drawing = record { form = Dominance; frame = z; items = [] } in t) e
-
-  pub dotted_is : (a b : Drawing) → a ≡ begun → b ≡ record a { items = a.items ++ each (dot N place) g.vertices } → b ≡ dotted
-  dotted_is = first_is g N Dominance (place g.sink) (dot N place) (dummied g dummy place)
-
-  pub lined_is : (a b : Drawing) → a ≡ dotted → b ≡ record a { items = a.items ++ each (line g N (dummied g dummy place)) (edge_count g) } → b ≡ lined
-  lined_is = second_is g N Dominance (place g.sink) (dot N place) (dummied g dummy place)
-
-  pub dotted_room : (a : Drawing) → a ≡ dotted → g.vertices + edge_count g + g.vertices < 2 ^ 31 → length a.items + edge_count g < 2 ^ 31
-  dotted_room a q r = let n : length a.items ≡ g.vertices = count_first g N Dominance (place g.sink) (dot N place) (dummied g dummy place) a q in omega arith
-
-  pub lined_room : (a : Drawing) (m : ℕ) → a ≡ lined → m ≡ g.vertices → g.vertices + edge_count g + g.vertices < 2 ^ 31 → length a.items + m < 2 ^ 31
-  lined_room a m q s r = let n : length a.items ≡ g.vertices + edge_count g = count_second g N Dominance (place g.sink) (dot N place) (dummied g dummy place) a q in omega arith
-
-  pub figures_are : (a : Drawing) (m : ℕ) → a ≡ lined → m ≡ g.vertices → HasFigures a.items m
-  figures_are = figures_first g N Dominance (place g.sink) (dot N place) (dummied g dummy place) (λ v l. tt)
-
-  pub whole : (a d : Drawing) (m : ℕ) → a ≡ lined → m ≡ g.vertices → d ≡ record a { items = a.items ++ labels N (place_at a.items) m } → d ≡ points_and_lines g N dummy place
-  whole = drawing_is g N Dominance (place g.sink) (dot N place) (dummied g dummy place) place (λ v l. refl)
-
 -- ---- frames
 module _ (g : SidesValue) (S : IsSides g) (N : Names) (ds : List (Option VertexId)) (points : List Point) (D : AreDots g ds points) where
   abbrev dummy : ℕ → Option ℕ
@@ -77,10 +41,10 @@ module _ (g : SidesValue) (S : IsSides g) (N : Names) (ds : List (Option VertexI
   abbrev place : ℕ → Point
   place = point_of points
 
-  dot_in : (v : ℕ) → v < g.vertices → IsInside corner (place v)
+  pub dot_in : (v : ℕ) → v < g.vertices → IsInside corner (place v)
   dot_in v l = (let m = D.vertices in D.inside v (omega arith))
 
-  line_in : (e : ℕ) → e < edge_count g → FitsFrame corner (line g N (dummied g dummy place) e)
+  pub line_in : (e : ℕ) → e < edge_count g → FitsFrame corner (line g N (dummied g dummy place) e)
   line_in e a =
       let t = dot_in (edge_tail g e) (S.tail_in e a) in
       let h = dot_in (edge_head g e) (S.head_in e a) in
@@ -88,12 +52,6 @@ module _ (g : SidesValue) (S : IsSides g) (N : Names) (ds : List (Option VertexI
         | inl q ↦ subst (λ z. (2 ≤ length z) × (length z ≤ 4) × AllByRecursion (IsInside corner) z) (sym (ap (through (place (edge_tail g e)) (place (edge_head g e)) place) q)) (omega arith, omega arith, (t, (h, tt)))
         | inr w ↦ subst (λ z. (2 ≤ length z) × (length z ≤ 4) × AllByRecursion (IsInside corner) z) (sym (ap (through (place (edge_tail g e)) (place (edge_head g e)) place) w.1)) (omega arith, omega arith, (t, (D.inside w.0 (D.dummies_in e w.0 a w.1), (h, tt))))
       ]
-
-  pub dots_fit : (a : Drawing) → a ≡ begun g N dummy place → (v : ℕ) → v < g.vertices → FitsFrame a.frame (dot N place v)
-  dots_fit a q v l = subst (λ (z : Drawing). FitsFrame z.frame (dot N place v)) (sym q) (dot_in v l)
-
-  pub lines_fit : (a : Drawing) → a ≡ dotted g N dummy place → (e : ℕ) → e < edge_count g → FitsFrame a.frame (line g N (dummied g dummy place) e)
-  lines_fit a q e l = subst (λ (z : Drawing). FitsFrame z.frame (line g N (dummied g dummy place) e)) (sym q) (line_in e l)
 
 -- ---- the line of an edge from its points
 module _ (g : SidesValue) (ds : List (Option VertexId)) (points : List Point) where

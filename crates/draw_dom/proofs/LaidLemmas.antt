@@ -6,6 +6,7 @@
 --   dots, drawn, dominance_of, reaching_by   what holds of the points and the picture
 use Rattle.std.proofs.Common.{ℕ, zero, suc, List, ◌≡◌, ◌<◌, ◌≤◌, ◌+◌, ◌*◌, ◌^◌, ◌↔◌, sym, ap, ◌∙◌, subst, arith, length, slice_get, Option}
 use Rattle.st_ids.specs.declared.ids.VertexId.{VertexId}
+use Rattle.st_ids.specs.declared.limits.TheConstants.{MOST_COORDINATE}
 use Rattle.st_ids.specs.declared.names.Names.{Names}
 use Rattle.st_ids.specs.Graph.{arcs_of}
 use Rattle.st_ids.specs.Walks.{Arcs, Reaches}
@@ -94,7 +95,7 @@ laid_of h s t outer g of z l A points P = record {
 pub laid_at : (h : Embedded) (s t outer s' t' outer' : ℕ) (points : List Point) → (s ≡ s') × (t ≡ t') × (outer ≡ outer') → IsLaid h s t outer points → IsLaid h s' t' outer' points
 laid_at h s t outer s' t' outer' points q L = subst (λ z. IsLaid h s' t' z points) q.2 (subst (λ z. IsLaid h s' z outer points) q.1 (subst (λ z. IsLaid h z t outer points) q.0 L))
 
-pub room : (g : Embedded) (s t outer : ℕ) (x : SidesValue) → IsSidesOf g s t outer x → x.vertices + edge_count x ≤ 50000000 → g.vertices + 2 * edges g < 2 ^ 30
+pub room : (g : Embedded) (s t outer : ℕ) (x : SidesValue) → IsSidesOf g s t outer x → x.vertices + edge_count x ≤ MOST_COORDINATE → g.vertices + 2 * edges g < 2 ^ 30
 room g s t outer x of few = (let a : x.vertices ≡ g.vertices = of.vertices in let b : edge_count x ≡ edges g = edges_same g s t outer x of in omega arith)
 
 -- ---- sizes
@@ -142,9 +143,9 @@ module _ (g : Embedded) (s t outer : ℕ) (st : IsPlanarSt g s t outer) (x : Sid
   most : (v : ℕ) → v < r.vertices → (px v ≤ px x.sink) × (py v ≤ py x.sink)
   most v i = C.points.up v x.sink i sink_there (reach_trans (to_sink r R v i) (reach_refl Q.sink))
 
-  pub dots : x.vertices + edge_count x ≤ 50000000 → AreDots x ds points
+  pub dots : x.vertices + edge_count x ≤ MOST_COORDINATE → AreDots x ds points
   dots few =
-      let n : r.vertices ≤ 50000000 =
+      let n : r.vertices ≤ MOST_COORDINATE =
       (let a = few_vertices g (edges g) (dummy_numbers ds) h red in
       let b : r.vertices ≡ h.vertices = L.are_sides.vertices in
       let c : x.vertices ≡ g.vertices = of.vertices in
@@ -163,7 +164,7 @@ module _ (g : Embedded) (s t outer : ℕ) (st : IsPlanarSt g s t outer) (x : Sid
             let j : v < r.vertices = omega arith in
             let k = most v j in
             subst (λ p. IsInside p (point_of points v)) (sym (is x.sink sink_there)) (subst (IsInside (at (px x.sink) (py x.sink))) (sym (is v j)) (inside (px x.sink) (py x.sink) (px v) (py v) k.0 k.1));
-        grid = subst IsFrame (sym (is x.sink sink_there)) (inside 50000000 50000000 (px x.sink) (py x.sink) (omega arith) (omega arith));
+        grid = subst IsFrame (sym (is x.sink sink_there)) (inside MOST_COORDINATE MOST_COORDINATE (px x.sink) (py x.sink) (omega arith) (omega arith));
       }
 
   module _ (N : Names) (d : Drawing) (q : d ≡ points_and_lines x N dummy (point_of points)) where

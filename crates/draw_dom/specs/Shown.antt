@@ -2,6 +2,7 @@
 --   AreDots g dummies points    the points of vertices and dummies lie between (0, 0) and the sink's, which lies on the grid
 --   IsLaid h .. points          the points are the compact points of the two numbers of a planar st-graph
 --   IsDominanceOf g .. d ps     d is the dominance picture of g, and ps are the points of its vertices in the reduced graph
+--   AreDominancePoints g .. ps  whatever the names, ps are the points of a dominance picture of g
 -- Letters: g graph with its lists, s source, t sink, outer an end on the outer face, x sides of g, h its reduced graph, N names,
 -- d picture, v and w vertices, e edge.
 use Rattle.std.specs.Prelude.{ℕ, ◌≡◌, ◌<◌, ◌≤◌, List, length, Option, Some}
@@ -56,3 +57,7 @@ pub record IsDominanceOf (g : Embedded) (s t outer : ℕ) (g_sides : SidesValue)
   pub numbers : HasNumbers sides x y at_x at_y
   pub picture : d ≡ points_and_lines g_sides N (dummy_at dummies) (compact_point x y at_x at_y)
   pub points_are : ArePoints (point_x x y at_x) (point_y x y at_y) g.vertices points
+
+-- For all names there is a dominance picture of g with these points.
+abbrev pub AreDominancePoints : Embedded → ℕ → ℕ → ℕ → SidesValue → List Point → Type 0
+AreDominancePoints g s t outer g_sides points = (N : Names) → (d : Drawing) × IsDominanceOf g s t outer g_sides N d points

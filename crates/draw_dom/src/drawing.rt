@@ -1,8 +1,9 @@
 //! Dominance pictures, from a graph to its picture and points.
 ghost use Rattle.std.specs.Prelude.{◌≡◌, ℕ, ◌+◌, ◌<◌, ◌≤◌, ◌^◌, ◌↔◌, length, slice_get, IfOk};
 ghost use Rattle.draw_dom.specs.Points.{AreAtMost};
-ghost use Rattle.draw_dom.specs.Shown.{IsDominanceOf, IsLaid};
+ghost use Rattle.draw_dom.specs.Shown.{AreDominancePoints, IsDominanceOf, IsLaid};
 ghost use Rattle.st_ids.specs.Graph.{arcs_of};
+ghost use Rattle.st_ids.specs.declared.limits.TheConstants.{MOST_COORDINATE};
 ghost use Rattle.st_ids.specs.Walks.{Reaches};
 ghost use Rattle.st_map.specs.Embedded.{bare};
 ghost use Rattle.st_picture.specs.Drawn.{IsDrawn};
@@ -51,6 +52,34 @@ fn first_points(
     Ok(first)
 }
 
+/// The point of each vertex in the dominance picture of the graph, without the picture: no item is made.
+///
+/// One vertex reaches another exactly where its point is at most the other's, as `reaches_by` tells.
+///
+/// Conditions: the sides are those of the graph, and there are at most `MOST_COORDINATE` vertices and edges together.
+/// Errors: `NoMemory`. The graph is given up then.
+/// Cost: O(V + E) time, and memory for the reduced graph, its sides and its points. Not proved.
+pub fn dominance_points(
+    alloc: Global,
+    graph: StGraph,
+    sides: &Sides,
+) -> Result<IdVec<VertexId, Point>, NoMemory>
+    requires sides { IsSidesOf graph.map.graph graph.source graph.sink graph.outer sides.now }
+    requires few { sides.now.vertices + edge_count sides.now ≤ MOST_COORDINATE }
+
+    ensures points { IfOk result (AreDominancePoints graph.map.graph graph.source graph.sink graph.outer sides.now) }
+    ensures size { IfOk result (λ points. length points ≡ graph.map.graph.vertices) }
+    ensures reaching { IfOk result (λ points. (u v : ℕ) → u < graph.map.graph.vertices → v < graph.map.graph.vertices → Reaches (arcs_of (bare graph.map.graph)) u v ↔ AreAtMost points u v) }
+{
+    planar_st(&graph);
+    laws::local(sides);
+    let reduced = reduce(alloc, graph, sides)?;
+    planar_st(&reduced.graph);
+    let points = laid(alloc, &reduced.graph)?;
+    let points = first_points(alloc, &points, sides.vertices())?;
+    Ok(points)
+}
+
 /// The dominance picture, and the point of each vertex. A vertex is a dot at its compact point in the reduced graph, in which
 /// each transitive edge is split by a dummy; an edge is the straight line between its dots, and a transitive edge goes by the
 /// point of its dummy, which stays a point of the line where it lies straight between. A label stands at its dot. The items
@@ -58,8 +87,8 @@ fn first_points(
 ///
 /// One vertex reaches another exactly where its point is at most the other's.
 ///
-/// Conditions: the sides are those of the graph, the names are for it, and there are at most 50,000,000 vertices and edges
-/// together.
+/// Conditions: the sides are those of the graph, the names are for it, and there are at most `MOST_COORDINATE` vertices and
+/// edges together.
 /// Errors: `NoMemory`. The graph is given up then.
 /// Cost: O(V + E) time, and memory for the reduced graph, its sides and its points beside the picture. Not proved.
 pub fn dominance(
@@ -70,7 +99,7 @@ pub fn dominance(
 ) -> Result<shown::Dominance, NoMemory>
     requires sides { IsSidesOf graph.map.graph graph.source graph.sink graph.outer sides.now }
     requires names { AreNames sides.now names.now }
-    requires few { sides.now.vertices + edge_count sides.now ≤ 50000000 }
+    requires few { sides.now.vertices + edge_count sides.now ≤ MOST_COORDINATE }
 
     ensures picture { IfOk result (λ d. IsDominanceOf graph.map.graph graph.source graph.sink graph.outer sides.now names.now d.picture d.points) }
     ensures drawn { IfOk result (λ d. IsDrawn sides.now d.picture) }

@@ -1,18 +1,17 @@
 //! The items of a dominance picture: dots, lines and labels.
-ghost use Rattle.std.specs.Prelude.{◌≡◌, ℕ, ◌+◌, ◌<◌, ◌≤◌, ◌^◌, ◌++◌, length, IfOk, OnOk};
+ghost use Rattle.std.specs.Prelude.{◌≡◌, ◌+◌, ◌<◌, ◌^◌, length, IfOk};
 ghost use Rattle.draw_dom.specs.Pictures.{dot, dummied, points_and_lines};
 ghost use Rattle.draw_dom.specs.Points.{point_of};
 ghost use Rattle.draw_dom.specs.Shown.{AreDots};
-ghost use Rattle.st_picture.specs.Items.{each, line};
+ghost use Rattle.st_picture.specs.Items.{line};
 ghost use Rattle.st_picture.specs.Naming.{AreNames};
 ghost use Rattle.st_reduce.specs.Marks.{dummy_numbers};
 ghost use Rattle.st_reduce.specs.Reduced.{dummy_at};
-ghost use Rattle.st_shape.specs.Rules.{FitsFrame};
 ghost use Rattle.st_sides.specs.Sides.{edge_count};
 
 use crate::table::Compact;
 use st_ids::{EdgeId, FaceId, IdVec, Names, NoMemory, VertexId};
-use st_picture::{push_each, push_labels};
+use st_picture::{compose, dot, line};
 use st_shape::{Form, Item, Picture, Point, Points};
 use st_sides::{Sides, laws};
 use std::alloc::Global;
@@ -50,20 +49,17 @@ fn dummied(
     }
 }
 
-/// The vertex as a dot.
-fn dot(points: &Compact, names: &Names, v: VertexId) -> Item
+/// The vertex as a dot at its point.
+fn dot_of(points: &Compact, names: &Names, v: VertexId) -> Item
     requires there { v.0 < length points.now }
     requires named { v.0 < length names.now.vertex }
     ensures { result ≡ dot names.now (point_of points.now) v.0 }
 {
-    Item::Dot {
-        name: *names.vertex.get(v),
-        p: place(points, v),
-    }
+    dot(names, v, place(points, v))
 }
 
 /// The edge as a line.
-fn line(
+fn line_of(
     alloc: Global,
     sides: &Sides,
     points: &Compact,
@@ -76,54 +72,7 @@ fn line(
     requires dots { AreDots sides.now dummies.now points.now }
     ensures { result ≡ line sides.now names.now (dummied sides.now (dummy_at (dummy_numbers dummies.now)) (point_of points.now)) e.0 }
 {
-    laws::local(sides);
-    let (tail, head) = (sides.tail(e), sides.head(e));
-    Item::Line {
-        name: *names.edge.get(e),
-        tail: *names.vertex.get(tail),
-        head: *names.vertex.get(head),
-        points: dummied(alloc, sides, points, dummies, e),
-    }
-}
-
-/// Adds the dot of each vertex.
-fn push_dots(
-    picture: &mut Picture,
-    sides: &Sides,
-    points: &Compact,
-    names: &Names,
-) -> Result<(), NoMemory>
-    requires names { AreNames sides.now names.now }
-    requires there { sides.now.vertices ≤ length points.now }
-    requires fits { (v : ℕ) → v < sides.now.vertices → FitsFrame picture.old.frame (dot names.now (point_of points.now) v) }
-    requires room { length picture.old.items + sides.now.vertices < 2 ^ 31 }
-    ensures { OnOk result (picture.new ≡ record picture.old { items = picture.old.items ++ each (dot names.now (point_of points.now)) sides.now.vertices }) }
-{
-    push_each(
-        picture,
-        sides.vertices(),
-        |v| dot(points, names, VertexId(v)),
-    )
-}
-
-/// Adds the line of each edge.
-fn push_lines(
-    alloc: Global,
-    picture: &mut Picture,
-    sides: &Sides,
-    points: &Compact,
-    dummies: &IdVec<EdgeId, Option<VertexId>>,
-    names: &Names,
-) -> Result<(), NoMemory>
-    requires names { AreNames sides.now names.now }
-    requires dots { AreDots sides.now dummies.now points.now }
-    requires fits { (e : ℕ) → e < edge_count sides.now → FitsFrame picture.old.frame (line sides.now names.now (dummied sides.now (dummy_at (dummy_numbers dummies.now)) (point_of points.now)) e) }
-    requires room { length picture.old.items + edge_count sides.now < 2 ^ 31 }
-    ensures { OnOk result (picture.new ≡ record picture.old { items = picture.old.items ++ each (line sides.now names.now (dummied sides.now (dummy_at (dummy_numbers dummies.now)) (point_of points.now))) (edge_count sides.now) }) }
-{
-    push_each(picture, sides.edges(), |e| {
-        line(alloc, sides, points, dummies, names, EdgeId(e))
-    })
+    line(sides, names, e, dummied(alloc, sides, points, dummies, e))
 }
 
 /// The picture of dots and lines at these points.
@@ -140,9 +89,16 @@ pub(crate) fn points_and_lines(
     ensures { IfOk result (λ d. d ≡ points_and_lines sides.now names.now (dummy_at (dummy_numbers dummies.now)) (point_of points.now)) }
 {
     laws::local(sides);
-    let corner = place(points, sides.high(FaceId(0)));
-    let mut picture = Picture::new(alloc, Form::Dominance, corner);
-    push_dots(&mut picture, sides, points, names)?;
-    push_lines(alloc, &mut picture, sides, points, dummies, names)?;
-    push_labels(alloc, picture, names)
+    let frame = place(points, sides.high(FaceId(0)));
+    let figure = |v| dot_of(points, names, VertexId(v));
+    let straight = |e| line_of(alloc, sides, points, dummies, names, EdgeId(e));
+    compose(
+        alloc,
+        Form::Dominance,
+        frame,
+        sides,
+        names,
+        figure,
+        straight,
+    )
 }

@@ -7,14 +7,12 @@
 
 mod compaction;
 mod drawing;
-#[cfg(test)]
-mod drawing_tests;
 mod items;
 pub mod laws;
 mod shown;
 mod table;
 
 pub use compaction::compact;
-pub use drawing::dominance;
-pub use shown::Dominance;
+pub use drawing::{dominance, dominance_points};
+pub use shown::{Dominance, reaches_by};
 pub use table::Compact;

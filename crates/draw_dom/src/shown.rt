@@ -13,6 +13,19 @@ fn is_at_most(p: Point, q: Point) -> bool
     p.x <= q.x && p.y <= q.y
 }
 
+/// Whether neither coordinate of u's point is above that of v's. With the points of `dominance_points` this says whether u
+/// reaches v; a vertex reaches itself.
+///
+/// Condition: there are points for both.
+/// Cost: O(1), no memory.
+pub fn reaches_by(points: &IdVec<VertexId, Point>, u: VertexId, v: VertexId) -> bool
+    requires first { u.0 < length points.now }
+    requires second { v.0 < length points.now }
+    ensures { IsTrue result ↔ AreAtMost points.now u.0 v.0 }
+{
+    is_at_most(*points.get(u), *points.get(v))
+}
+
 /// A dominance picture, and the point of each vertex, as `dominance` finds them. Anyone can write a value; `reaches` compares
 /// whatever points it holds.
 #[derive(Drop)]
@@ -45,6 +58,6 @@ impl Dominance {
         requires second { v.0 < length self.now.points }
         ensures { IsTrue result ↔ AreAtMost self.now.points u.0 v.0 }
     {
-        is_at_most(self.point(u), self.point(v))
+        reaches_by(&self.points, u, v)
     }
 }

@@ -1,85 +1,74 @@
-use Rattle.std.proofs.Common.{length, ap, ◌∙◌}
+use Rattle.std.proofs.Common.{◌≡◌, ◌≤◌, length, rules, sym, subst, ap, ◌∙◌}
 use Rattle.std.proofs.lemmas.Result.{IfOk-weaker}
+use Rattle.st_shape.specs.declared.picture.Form.TheVariants.{Dominance}
+use Rattle.st_shape.specs.declared.point.Point.{Point}
+use Rattle.st_shape.specs.Rules.{FitsFrame, IsFrame}
+use Rattle.st_picture.specs.Items.{drawing, line, place_of}
 use Rattle.st_reduce.specs.Marks.{dummy_numbers}
 use Rattle.st_reduce.specs.Reduced.{dummy_at}
+use Rattle.draw_dom.specs.Pictures.{dot, dummied, points_and_lines}
 use Rattle.draw_dom.specs.Points.{point_of}
-use Rattle.st_picture.proofs.NameLemmas.{has_labels}
-use Rattle.draw_dom.proofs.BuildLemmas.{begun_is, dotted_is, lined_is, dots_fit, lines_fit, dotted_room, lined_room, figures_are, whole}
+use Rattle.draw_dom.proofs.BuildLemmas.{dot_in, line_in}
 use Rattle.draw_dom.proofs.items.points_and_lines.Goals as goal
 
-pub push_dots-requires-clause-fits : goal.push_dots-requires-clause-fits
-push_dots-requires-clause-fits c =
-    let g = c.args.sides.now in
+pub compose-requires-clause-frame : goal.compose-requires-clause-frame
+compose-requires-clause-frame c =
+    let S = c.args.sides.now in
     let N = c.args.names.now in
     let ds = c.args.dummies.now in
     let ps = c.args.points.now in
     let p = point_of ps in
     let d = dummy_at (dummy_numbers ds) in
-    let p0 = begun_is g N d p c.new-picture.result c.place-corner.result (c.place-corner.ensures ∙ ap p (c.high.ensures.value ∙ c.local.ensures.high_s)) c.new-picture.ensures in
-    dots_fit g c.local.ensures N ds ps c.requires.dots c.new-picture.result p0
+    let q : c.place-frame.result ≡ p S.sink = c.place-frame.ensures ∙ ap p (c.high.ensures.value ∙ c.local.ensures.high_s) in
+    subst IsFrame (sym q) c.requires.dots.grid
 
-pub push_lines-requires-clause-fits : goal.push_lines-requires-clause-fits
-push_lines-requires-clause-fits c =
-    let g = c.args.sides.now in
+pub compose-requires-clause-items : goal.compose-requires-clause-items
+compose-requires-clause-items c =
+    let S = c.args.sides.now in
     let N = c.args.names.now in
     let ds = c.args.dummies.now in
     let ps = c.args.points.now in
     let p = point_of ps in
     let d = dummy_at (dummy_numbers ds) in
-    let p0 = begun_is g N d p c.new-picture.result c.place-corner.result (c.place-corner.ensures ∙ ap p (c.high.ensures.value ∙ c.local.ensures.high_s)) c.new-picture.ensures in
-    let p1 = dotted_is g N d p c.new-picture.result c.push_dots.new.picture p0 c.in_ok-push_dots.ensures in
-    lines_fit g c.local.ensures N ds ps c.requires.dots c.push_dots.new.picture p1
-
-pub push_lines-requires-clause-room : goal.push_lines-requires-clause-room
-push_lines-requires-clause-room c =
-    let g = c.args.sides.now in
-    let N = c.args.names.now in
-    let ds = c.args.dummies.now in
-    let ps = c.args.points.now in
-    let p = point_of ps in
-    let d = dummy_at (dummy_numbers ds) in
-    let p0 = begun_is g N d p c.new-picture.result c.place-corner.result (c.place-corner.ensures ∙ ap p (c.high.ensures.value ∙ c.local.ensures.high_s)) c.new-picture.ensures in
-    let p1 = dotted_is g N d p c.new-picture.result c.push_dots.new.picture p0 c.in_ok-push_dots.ensures in
-    dotted_room g N d p c.push_dots.new.picture p1 c.requires.room
-
-pub push_labels-requires-clause-names : goal.push_labels-requires-clause-names
-push_labels-requires-clause-names c = has_labels c.args.sides.now c.args.names.now c.requires.names
-
-pub push_labels-requires-clause-figures : goal.push_labels-requires-clause-figures
-push_labels-requires-clause-figures c =
-    let g = c.args.sides.now in
-    let N = c.args.names.now in
-    let ds = c.args.dummies.now in
-    let ps = c.args.points.now in
-    let p = point_of ps in
-    let d = dummy_at (dummy_numbers ds) in
-    let p0 = begun_is g N d p c.new-picture.result c.place-corner.result (c.place-corner.ensures ∙ ap p (c.high.ensures.value ∙ c.local.ensures.high_s)) c.new-picture.ensures in
-    let p1 = dotted_is g N d p c.new-picture.result c.push_dots.new.picture p0 c.in_ok-push_dots.ensures in
-    let p2 = lined_is g N d p c.push_dots.new.picture c.push_lines.new.picture p1 c.in_ok-push_lines.ensures in
-    figures_are g N d p c.push_lines.new.picture (length N.label) p2 c.requires.names.labels
-
-pub push_labels-requires-clause-room : goal.push_labels-requires-clause-room
-push_labels-requires-clause-room c =
-    let g = c.args.sides.now in
-    let N = c.args.names.now in
-    let ds = c.args.dummies.now in
-    let ps = c.args.points.now in
-    let p = point_of ps in
-    let d = dummy_at (dummy_numbers ds) in
-    let p0 = begun_is g N d p c.new-picture.result c.place-corner.result (c.place-corner.ensures ∙ ap p (c.high.ensures.value ∙ c.local.ensures.high_s)) c.new-picture.ensures in
-    let p1 = dotted_is g N d p c.new-picture.result c.push_dots.new.picture p0 c.in_ok-push_dots.ensures in
-    let p2 = lined_is g N d p c.push_dots.new.picture c.push_lines.new.picture p1 c.in_ok-push_lines.ensures in
-    lined_room g N d p c.push_lines.new.picture (length N.label) p2 c.requires.names.labels c.requires.room
+    let q : c.place-frame.result ≡ p S.sink = c.place-frame.ensures ∙ ap p (c.high.ensures.value ∙ c.local.ensures.high_s) in (
+      dot N p,
+      dummied S d p,
+      record {
+        figures = record {
+          callable = λ v l. (let a : S.vertices ≤ length ps = c.requires.dots.vertices in let b : length N.vertex ≡ S.vertices = c.requires.names.vertices in search rules);
+          answers = λ v z l h. search rules;
+          fits = λ v l. subst (λ (z : Point). FitsFrame z (dot N p v)) (sym q) (dot_in S c.local.ensures N ds ps c.requires.dots v l);
+        };
+        kind = λ v l. tt;
+        lines = record {
+          callable = λ e l. search rules;
+          answers = λ e z l h. search rules;
+          fits = λ e l. subst (λ (z : Point). FitsFrame z (line S N (dummied S d p) e)) (sym q) (line_in S c.local.ensures N ds ps c.requires.dots e l);
+        };
+      },
+    )
 
 pub returns : goal.returns
 returns c =
-    let g = c.args.sides.now in
+    let S = c.args.sides.now in
     let N = c.args.names.now in
     let ds = c.args.dummies.now in
     let ps = c.args.points.now in
     let p = point_of ps in
     let d = dummy_at (dummy_numbers ds) in
-    let p0 = begun_is g N d p c.new-picture.result c.place-corner.result (c.place-corner.ensures ∙ ap p (c.high.ensures.value ∙ c.local.ensures.high_s)) c.new-picture.ensures in
-    let p1 = dotted_is g N d p c.new-picture.result c.push_dots.new.picture p0 c.in_ok-push_dots.ensures in
-    let p2 = lined_is g N d p c.push_dots.new.picture c.push_lines.new.picture p1 c.in_ok-push_lines.ensures in
-    IfOk-weaker c.push_labels.result _ _ (λ a q. whole g N d p c.push_lines.new.picture a (length N.label) p2 c.requires.names.labels q) c.push_labels.ensures
+    let q : c.place-frame.result ≡ p S.sink = c.place-frame.ensures ∙ ap p (c.high.ensures.value ∙ c.local.ensures.high_s) in
+    IfOk-weaker c.compose.result (λ e. e ≡ drawing S N Dominance c.place-frame.result (dot N p) (dummied S d p) (λ v. place_of (dot N p v))) (λ e. e ≡ points_and_lines S N d p)
+    (λ e r. r ∙ ap (λ z. drawing S N Dominance z (dot N p) (dummied S d p) p) q)
+    (c.compose.ensures (dot N p) (dummied S d p) (record {
+      figures = record {
+        callable = λ v l. (let a : S.vertices ≤ length ps = c.requires.dots.vertices in let b : length N.vertex ≡ S.vertices = c.requires.names.vertices in search rules);
+        answers = λ v z l h. search rules;
+        fits = λ v l. subst (λ (z : Point). FitsFrame z (dot N p v)) (sym q) (dot_in S c.local.ensures N ds ps c.requires.dots v l);
+      };
+      kind = λ v l. tt;
+      lines = record {
+        callable = λ e l. search rules;
+        answers = λ e z l h. search rules;
+        fits = λ e l. subst (λ (z : Point). FitsFrame z (line S N (dummied S d p) e)) (sym q) (line_in S c.local.ensures N ds ps c.requires.dots e l);
+      };
+    }))
