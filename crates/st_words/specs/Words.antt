@@ -6,6 +6,7 @@
 --   IsNumber word n      the word writes the number n, in digits alone
 --   IsRecipe a b r       two words write which graph is generated
 --   IsTask words t       the words ask for the task: a command on a file, or something about a generated graph
+use Rattle.st_ids.specs.declared.limits.TheConstants.{MOST_PAIRS, MOST_VERTICES}
 use Rattle.std.specs.Prelude.{◌≡◌, ℕ, ◌+◌, ◌*◌, ◌^◌, ◌<◌, ◌≤◌, ℤ, pos, FitsSigned, List, [], ◌∷◌, length, drop, slice_index_or, codes}
 use Rattle.std.specs.Int.{w64}
 use Rattle.std.specs.Str.Parse.{IsNumeral, digits_value, signed_digits_value, without_leading_sign}
@@ -33,7 +34,7 @@ pub record AreNames (words : List (List ℕ)) (pairs : List (ℤ × ℤ)) : Type
 
 -- the greatest number of pairs of a query
 abbrev pub most_pairs : ℕ
-most_pairs = 1000
+most_pairs = MOST_PAIRS
 
 -- the word of a spot
 abbrev pub spot_word : Spot → List ℕ
@@ -68,7 +69,7 @@ pub record IsNumber (word : List ℕ) (n : ℕ) : Type 0 where
 
 -- the greatest number of vertices of a generated graph
 abbrev pub most_vertices : ℕ
-most_vertices = 20000
+most_vertices = MOST_VERTICES
 
 -- two words write a number of vertices within its limits and a seed of 64 bits
 pub record IsRecipe (size seed : List ℕ) (r : Recipe) : Type 0 where

@@ -4,12 +4,9 @@ ghost use Rattle.std.specs.String.{string_bytes};
 ghost use Rattle.st_words.specs.Words.{IsName, IsNumber, AreNames, AreForm, AreRecipe, IsRecipe, IsCommand, IsTask, IsFileless, most_pairs, spot_word, form_words};
 
 use st_ids::NoMemory;
+use st_ids::limits::{MOST_PAIRS, MOST_VERTICES};
 use std::alloc::Global;
 use std::marker::Model;
-
-const MOST_PAIRS: usize = 1000;
-
-const MOST_VERTICES: u64 = 20_000;
 
 /// Pairs of vertex names, which a contract sees as a list.
 #[derive(Drop)]
@@ -239,7 +236,7 @@ fn recipe_of(size: &String, seed: &String) -> Option<Recipe>
 {
     let vertices = number_of(size)?;
     let seed = number_of(seed)?;
-    if vertices < 2 || vertices > MOST_VERTICES {
+    if vertices < 2 || vertices > MOST_VERTICES as u64 {
         return None;
     }
     Some(Recipe {
