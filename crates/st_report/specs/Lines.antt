@@ -5,6 +5,7 @@
 --   spaced, names_line    a space and the name, for each of the names; these and the end of the line
 use Rattle.std.specs.Prelude.{ℕ, ℤ, pos, Bool, true, false, List, [], ◌∷◌, codes, ◌++◌}
 use Rattle.std.specs.Fmt.{signed_decimal}
+use Rattle.st_ids.specs.declared.limits.TheConstants.{MOST_BYTES, MOST_VERTICES, MOST_EDGES}
 use Rattle.gml_core.specs.declared.fault.GmlFault.{GmlFault}
 use Rattle.gml_core.specs.declared.fault.GmlFault.TheVariants as gml
 use Rattle.st_input.specs.declared.fault.ShapeFault.{ShapeFault}
@@ -76,6 +77,10 @@ gml_line (gml.Stray at) = placed (codes "gml: stray token at ") at
 gml_line (gml.TooDeep at) = placed (codes "gml: list too deep at ") at
 gml_line gml.NoMemory = codes "no memory\n"
 
+-- how large a graph is that is too large, and the limit
+abbrev pub limit_line : ℕ → List ℕ → ℕ → List ℕ
+limit_line n middle most = numbered (codes "limit: ") (pos n) middle ++ numbered [] (pos most) (codes "\n")
+
 abbrev pub shape_line : ShapeFault → List ℕ
 shape_line shape.NoGraph = codes "gml: no graph\n"
 shape_line (shape.SecondGraph at) = placed (codes "gml: second graph at ") at
@@ -87,8 +92,8 @@ shape_line (shape.UnknownEnd edge id) = numbered (codes "gml: edge ") (pos edge)
 shape_line (shape.SameEdgeId id) = numbered (codes "gml: edge id ") id (codes " twice\n")
 shape_line (shape.UnknownEdge at) = placed (codes "gml: unknown edge at ") at
 shape_line (shape.BadOuter at) = placed (codes "gml: bad outer at ") at
-shape_line (shape.TooManyVertices n) = numbered (codes "limit: ") (pos n) (codes " vertices, at most 20000\n")
-shape_line (shape.TooManyEdges m) = numbered (codes "limit: ") (pos m) (codes " edges, at most 60000\n")
+shape_line (shape.TooManyVertices n) = limit_line n (codes " vertices, at most ") MOST_VERTICES
+shape_line (shape.TooManyEdges m) = limit_line m (codes " edges, at most ") MOST_EDGES
 shape_line shape.NoMemory = codes "no memory\n"
 
 -- a space and the name, for each of the names
@@ -135,7 +140,7 @@ path_line (bad_path.Crossing path other vertex) = numbered (codes "path: ") (pos
 
 abbrev pub line_of : Refusal → List ℕ
 line_of Words = codes "words: not a command of stdraw\n"
-line_of TooManyBytes = codes "limit: more than 16777216 bytes\n"
+line_of TooManyBytes = numbered (codes "limit: more than ") (pos MOST_BYTES) (codes " bytes\n")
 line_of (Gml fault) = gml_line fault
 line_of (Shape fault) = shape_line fault
 line_of (NotSt why) = not_st_line why

@@ -1,24 +1,23 @@
 //! The diagnostic line, written to its sink in pieces and without memory.
 //!
-//! Each writer here appends its whole text, or a front of it where the sink counted a fault.
-ghost use Rattle.std.specs.Prelude.{◌≡◌, ◌++◌, OnOk, OnErr, IsTrue};
-ghost use Rattle.st_port.specs.Faults.{Rose, GoesOn};
-ghost use Rattle.st_port.specs.Streams.{Gains, GainsFront};
-ghost use Rattle.st_report.specs.Lines.{gml_line, shape_line, names_line, several_line, faces_line, cycle_line, not_st_line, path_line, line_of, stop_line, stop_status};
+//! Each writer here appends its whole text, or a front of it where the sink counted a fault. A line is short, and comes once a
+//! run: it takes no buffer.
+ghost use Rattle.std.specs.Prelude.{◌≡◌, ◌++◌, OnOk, IsTrue};
+ghost use Rattle.st_port.specs.Faults.{GoesOn};
+ghost use Rattle.st_port.specs.Writes.{Writes};
+ghost use Rattle.st_report.specs.Lines.{gml_line, shape_line, names_line, several_line, limit_line, faces_line, cycle_line, not_st_line, path_line, line_of, stop_line, stop_status};
 ghost use Rattle.st_report.specs.Telling.{Tells};
 
 use crate::stop::{BadPath, NotSt, Refusal, Status, Stop};
 use gml_core::GmlFault;
 use itoa::{Buffer, Integer};
+use st_ids::limits::{MOST_BYTES, MOST_EDGES, MOST_VERTICES};
 use st_input::ShapeFault;
 use st_port::{Failed, Sink, write_all};
 
 // Writes one text and then another.
 fn write_two<K: Sink>(sink: &mut K, first: &[u8], second: &[u8]) -> Result<(), Failed>
-    ensures whole { OnOk result (Gains (K.state sink.old) (K.state sink.new) (first.now ++ second.now)) }
-    ensures prefix { OnErr result (GainsFront (K.state sink.old) (K.state sink.new) (first.now ++ second.now)) }
-    ensures count { GoesOn (K.state sink.old).faults (K.state sink.new).faults }
-    ensures cause { OnErr result (Rose (K.state sink.old).faults (K.state sink.new).faults) }
+    ensures { Writes (K.state sink.old) (K.state sink.new) result (first.now ++ second.now) }
 {
     write_all(sink, first)?;
     write_all(sink, second)
@@ -31,10 +30,7 @@ fn write_number<K: Sink, I: Integer>(
     n: I,
     tail: &[u8],
 ) -> Result<(), Failed>
-    ensures whole { OnOk result (Gains (K.state sink.old) (K.state sink.new) (head.now ++ (I.text n ++ tail.now))) }
-    ensures prefix { OnErr result (GainsFront (K.state sink.old) (K.state sink.new) (head.now ++ (I.text n ++ tail.now))) }
-    ensures count { GoesOn (K.state sink.old).faults (K.state sink.new).faults }
-    ensures cause { OnErr result (Rose (K.state sink.old).faults (K.state sink.new).faults) }
+    ensures { Writes (K.state sink.old) (K.state sink.new) result (head.now ++ (I.text n ++ tail.now)) }
 {
     let mut buffer = Buffer::new();
     let digits = buffer.format(n);
@@ -51,10 +47,7 @@ fn write_numbers<K: Sink, I: Integer, J: Integer>(
     m: J,
     tail: &[u8],
 ) -> Result<(), Failed>
-    ensures whole { OnOk result (Gains (K.state sink.old) (K.state sink.new) ((head.now ++ (I.text n ++ middle.now)) ++ (J.text m ++ tail.now))) }
-    ensures prefix { OnErr result (GainsFront (K.state sink.old) (K.state sink.new) ((head.now ++ (I.text n ++ middle.now)) ++ (J.text m ++ tail.now))) }
-    ensures count { GoesOn (K.state sink.old).faults (K.state sink.new).faults }
-    ensures cause { OnErr result (Rose (K.state sink.old).faults (K.state sink.new).faults) }
+    ensures { Writes (K.state sink.old) (K.state sink.new) result ((head.now ++ (I.text n ++ middle.now)) ++ (J.text m ++ tail.now)) }
 {
     write_number(sink, head, n, middle)?;
     write_number(sink, b"", m, tail)
@@ -62,10 +55,7 @@ fn write_numbers<K: Sink, I: Integer, J: Integer>(
 
 // Writes the line of a fault of a text.
 fn write_gml<D: Sink>(diag: &mut D, fault: &GmlFault) -> Result<(), Failed>
-    ensures whole { OnOk result (Gains (D.state diag.old) (D.state diag.new) (gml_line fault.now)) }
-    ensures prefix { OnErr result (GainsFront (D.state diag.old) (D.state diag.new) (gml_line fault.now)) }
-    ensures count { GoesOn (D.state diag.old).faults (D.state diag.new).faults }
-    ensures cause { OnErr result (Rose (D.state diag.old).faults (D.state diag.new).faults) }
+    ensures { Writes (D.state diag.old) (D.state diag.new) result (gml_line fault.now) }
 {
     match fault {
         GmlFault::BadByte { at } => write_number(diag, b"gml: bad byte at ", *at, b"\n"),
@@ -80,12 +70,16 @@ fn write_gml<D: Sink>(diag: &mut D, fault: &GmlFault) -> Result<(), Failed>
     }
 }
 
+// Writes the line of a graph that is too large: how large it is, and the limit.
+fn write_limit<D: Sink>(diag: &mut D, n: u32, middle: &[u8], most: u32) -> Result<(), Failed>
+    ensures { Writes (D.state diag.old) (D.state diag.new) result (limit_line n middle.now most) }
+{
+    write_numbers(diag, b"limit: ", n, middle, most, b"\n")
+}
+
 // Writes the line of a fault of a tree.
 fn write_shape<D: Sink>(diag: &mut D, fault: &ShapeFault) -> Result<(), Failed>
-    ensures whole { OnOk result (Gains (D.state diag.old) (D.state diag.new) (shape_line fault.now)) }
-    ensures prefix { OnErr result (GainsFront (D.state diag.old) (D.state diag.new) (shape_line fault.now)) }
-    ensures count { GoesOn (D.state diag.old).faults (D.state diag.new).faults }
-    ensures cause { OnErr result (Rose (D.state diag.old).faults (D.state diag.new).faults) }
+    ensures { Writes (D.state diag.old) (D.state diag.new) result (shape_line fault.now) }
 {
     match fault {
         ShapeFault::NoGraph => write_all(diag, b"gml: no graph\n"),
@@ -112,28 +106,17 @@ fn write_shape<D: Sink>(diag: &mut D, fault: &ShapeFault) -> Result<(), Failed>
         ShapeFault::SameEdgeId { id } => write_number(diag, b"gml: edge id ", *id, b" twice\n"),
         ShapeFault::UnknownEdge { at } => write_number(diag, b"gml: unknown edge at ", *at, b"\n"),
         ShapeFault::BadOuter { at } => write_number(diag, b"gml: bad outer at ", *at, b"\n"),
-        ShapeFault::TooManyVertices { n } => write_number(
-            diag,
-            b"limit: ",
-            *n,
-            b" vertices, at most 20000\n",
-        ),
-        ShapeFault::TooManyEdges { m } => write_number(
-            diag,
-            b"limit: ",
-            *m,
-            b" edges, at most 60000\n",
-        ),
+        ShapeFault::TooManyVertices { n } => {
+            write_limit(diag, *n, b" vertices, at most ", MOST_VERTICES)
+        }
+        ShapeFault::TooManyEdges { m } => write_limit(diag, *m, b" edges, at most ", MOST_EDGES),
         ShapeFault::NoMemory => write_all(diag, b"no memory\n"),
     }
 }
 
 // Writes the names of a cycle's edges, each behind a space, and the end of the line.
 fn write_names<D: Sink>(diag: &mut D, names: &[i64]) -> Result<(), Failed>
-    ensures whole { OnOk result (Gains (D.state diag.old) (D.state diag.new) (names_line names.now)) }
-    ensures prefix { OnErr result (GainsFront (D.state diag.old) (D.state diag.new) (names_line names.now)) }
-    ensures count { GoesOn (D.state diag.old).faults (D.state diag.new).faults }
-    ensures cause { OnErr result (Rose (D.state diag.old).faults (D.state diag.new).faults) }
+    ensures { Writes (D.state diag.old) (D.state diag.new) result (names_line names.now) }
 {
     for i in 0..names.len() {
         write_number(diag, b" ", names[i], b"")?;
@@ -149,10 +132,7 @@ fn write_several<D: Sink>(
     first: i64,
     second: i64,
 ) -> Result<(), Failed>
-    ensures whole { OnOk result (Gains (D.state diag.old) (D.state diag.new) (several_line count head.now first second)) }
-    ensures prefix { OnErr result (GainsFront (D.state diag.old) (D.state diag.new) (several_line count head.now first second)) }
-    ensures count { GoesOn (D.state diag.old).faults (D.state diag.new).faults }
-    ensures cause { OnErr result (Rose (D.state diag.old).faults (D.state diag.new).faults) }
+    ensures { Writes (D.state diag.old) (D.state diag.new) result (several_line count head.now first second) }
 {
     write_number(diag, b"not st: ", count, head)?;
     write_numbers(diag, b"", first, b" and ", second, b"\n")
@@ -160,10 +140,7 @@ fn write_several<D: Sink>(
 
 // Writes the line of the numbers of vertices, edges and faces.
 fn write_faces<D: Sink>(diag: &mut D, v: u32, e: u32, f: u32) -> Result<(), Failed>
-    ensures whole { OnOk result (Gains (D.state diag.old) (D.state diag.new) (faces_line v e f)) }
-    ensures prefix { OnErr result (GainsFront (D.state diag.old) (D.state diag.new) (faces_line v e f)) }
-    ensures count { GoesOn (D.state diag.old).faults (D.state diag.new).faults }
-    ensures cause { OnErr result (Rose (D.state diag.old).faults (D.state diag.new).faults) }
+    ensures { Writes (D.state diag.old) (D.state diag.new) result (faces_line v e f) }
 {
     write_number(diag, b"not st: faces: ", v, b" vertices, ")?;
     write_numbers(diag, b"", e, b" edges, ", f, b" faces\n")
@@ -171,10 +148,7 @@ fn write_faces<D: Sink>(diag: &mut D, v: u32, e: u32, f: u32) -> Result<(), Fail
 
 // Writes the line of a cycle.
 fn write_cycle<D: Sink>(diag: &mut D, names: &[i64]) -> Result<(), Failed>
-    ensures whole { OnOk result (Gains (D.state diag.old) (D.state diag.new) (cycle_line names.now)) }
-    ensures prefix { OnErr result (GainsFront (D.state diag.old) (D.state diag.new) (cycle_line names.now)) }
-    ensures count { GoesOn (D.state diag.old).faults (D.state diag.new).faults }
-    ensures cause { OnErr result (Rose (D.state diag.old).faults (D.state diag.new).faults) }
+    ensures { Writes (D.state diag.old) (D.state diag.new) result (cycle_line names.now) }
 {
     write_all(diag, b"not st: cycle:")?;
     write_names(diag, names)
@@ -182,10 +156,7 @@ fn write_cycle<D: Sink>(diag: &mut D, names: &[i64]) -> Result<(), Failed>
 
 // Writes the line of a test that the graph fails.
 fn write_not_st<D: Sink>(diag: &mut D, why: &NotSt) -> Result<(), Failed>
-    ensures whole { OnOk result (Gains (D.state diag.old) (D.state diag.new) (not_st_line why.now)) }
-    ensures prefix { OnErr result (GainsFront (D.state diag.old) (D.state diag.new) (not_st_line why.now)) }
-    ensures count { GoesOn (D.state diag.old).faults (D.state diag.new).faults }
-    ensures cause { OnErr result (Rose (D.state diag.old).faults (D.state diag.new).faults) }
+    ensures { Writes (D.state diag.old) (D.state diag.new) result (not_st_line why.now) }
 {
     match why {
         NotSt::TooFew { n } => write_number(diag, b"not st: too few vertices: ", *n, b"\n"),
@@ -224,10 +195,7 @@ fn write_not_st<D: Sink>(diag: &mut D, why: &NotSt) -> Result<(), Failed>
 
 // Writes the line of two paths that cross.
 fn write_crossing<D: Sink>(diag: &mut D, path: u32, other: u32, vertex: i64) -> Result<(), Failed>
-    ensures whole { OnOk result (Gains (D.state diag.old) (D.state diag.new) (path_line (BadPath.Crossing path other vertex))) }
-    ensures prefix { OnErr result (GainsFront (D.state diag.old) (D.state diag.new) (path_line (BadPath.Crossing path other vertex))) }
-    ensures count { GoesOn (D.state diag.old).faults (D.state diag.new).faults }
-    ensures cause { OnErr result (Rose (D.state diag.old).faults (D.state diag.new).faults) }
+    ensures { Writes (D.state diag.old) (D.state diag.new) result (path_line (BadPath.Crossing path other vertex)) }
 {
     write_number(diag, b"path: ", path, b" crosses path ")?;
     write_numbers(diag, b"", other, b" at vertex ", vertex, b"\n")
@@ -235,10 +203,7 @@ fn write_crossing<D: Sink>(diag: &mut D, path: u32, other: u32, vertex: i64) -> 
 
 // Writes the line of a path that can't be drawn.
 fn write_path<D: Sink>(diag: &mut D, fault: BadPath) -> Result<(), Failed>
-    ensures whole { OnOk result (Gains (D.state diag.old) (D.state diag.new) (path_line fault)) }
-    ensures prefix { OnErr result (GainsFront (D.state diag.old) (D.state diag.new) (path_line fault)) }
-    ensures count { GoesOn (D.state diag.old).faults (D.state diag.new).faults }
-    ensures cause { OnErr result (Rose (D.state diag.old).faults (D.state diag.new).faults) }
+    ensures { Writes (D.state diag.old) (D.state diag.new) result (path_line fault) }
 {
     match fault {
         BadPath::UnknownEdge { path, name } => write_numbers(
@@ -273,14 +238,11 @@ fn write_path<D: Sink>(diag: &mut D, fault: BadPath) -> Result<(), Failed>
 
 // Writes the line of a refusal.
 fn write_refusal<D: Sink>(diag: &mut D, refusal: &Refusal) -> Result<(), Failed>
-    ensures whole { OnOk result (Gains (D.state diag.old) (D.state diag.new) (line_of refusal.now)) }
-    ensures prefix { OnErr result (GainsFront (D.state diag.old) (D.state diag.new) (line_of refusal.now)) }
-    ensures count { GoesOn (D.state diag.old).faults (D.state diag.new).faults }
-    ensures cause { OnErr result (Rose (D.state diag.old).faults (D.state diag.new).faults) }
+    ensures { Writes (D.state diag.old) (D.state diag.new) result (line_of refusal.now) }
 {
     match refusal {
         Refusal::Words => write_all(diag, b"words: not a command of stdraw\n"),
-        Refusal::TooManyBytes => write_all(diag, b"limit: more than 16777216 bytes\n"),
+        Refusal::TooManyBytes => write_number(diag, b"limit: more than ", MOST_BYTES, b" bytes\n"),
         Refusal::Gml(fault) => write_gml(diag, fault),
         Refusal::Shape(fault) => write_shape(diag, fault),
         Refusal::NotSt(why) => write_not_st(diag, why),
@@ -291,10 +253,7 @@ fn write_refusal<D: Sink>(diag: &mut D, refusal: &Refusal) -> Result<(), Failed>
 
 // Writes the line that says why a run stops.
 fn write_stop<D: Sink>(diag: &mut D, stop: &Stop) -> Result<(), Failed>
-    ensures whole { OnOk result (Gains (D.state diag.old) (D.state diag.new) (stop_line stop.now)) }
-    ensures prefix { OnErr result (GainsFront (D.state diag.old) (D.state diag.new) (stop_line stop.now)) }
-    ensures count { GoesOn (D.state diag.old).faults (D.state diag.new).faults }
-    ensures cause { OnErr result (Rose (D.state diag.old).faults (D.state diag.new).faults) }
+    ensures { Writes (D.state diag.old) (D.state diag.new) result (stop_line stop.now) }
 {
     match stop {
         Stop::Refused(refusal) => write_refusal(diag, refusal),
@@ -306,11 +265,8 @@ fn write_stop<D: Sink>(diag: &mut D, stop: &Stop) -> Result<(), Failed>
 
 // Writes the line that says why a run stops, and flushes.
 fn tell<D: Sink>(diag: &mut D, stop: &Stop) -> Result<(), Failed>
-    ensures whole { OnOk result (Gains (D.state diag.old) (D.state diag.new) (stop_line stop.now)) }
+    ensures writes { Writes (D.state diag.old) (D.state diag.new) result (stop_line stop.now) }
     ensures flushed { OnOk result (IsTrue (D.state diag.new).is_flushed) }
-    ensures prefix { OnErr result (GainsFront (D.state diag.old) (D.state diag.new) (stop_line stop.now)) }
-    ensures count { GoesOn (D.state diag.old).faults (D.state diag.new).faults }
-    ensures cause { OnErr result (Rose (D.state diag.old).faults (D.state diag.new).faults) }
 {
     write_stop(diag, stop)?;
     diag.flush()

@@ -1,15 +1,9 @@
-use Rattle.std.proofs.Common.{rules, w64, FitsSigned}
+use Rattle.std.proofs.Common.{w64, FitsSigned, rules}
 use Rattle.std.proofs.lemmas.Int.{to_z-of_z}
 use Rattle.st_report.proofs.telling.write_not_st.Goals as goal
 
-pub returns-in-Sinks-clause-whole : goal.returns-in-Sinks-clause-whole
-returns-in-Sinks-clause-whole g c =
+pub returns-in-Sinks : goal.returns-in-Sinks
+returns-in-Sinks g c =
     let fit : FitsSigned w64 c.in-Sinks.first = search rules in
     let fit' : FitsSigned w64 c.in-Sinks.second = search rules in
-    rw c.in-Sinks.is (rw (to_z-of_z w64 c.in-Sinks.first fit, to_z-of_z w64 c.in-Sinks.second fit') at c.write_several-in-Sinks.ensures.whole)
-
-pub returns-in-Sinks-clause-prefix : goal.returns-in-Sinks-clause-prefix
-returns-in-Sinks-clause-prefix g c =
-    let fit : FitsSigned w64 c.in-Sinks.first = search rules in
-    let fit' : FitsSigned w64 c.in-Sinks.second = search rules in
-    rw c.in-Sinks.is (rw (to_z-of_z w64 c.in-Sinks.first fit, to_z-of_z w64 c.in-Sinks.second fit') at c.write_several-in-Sinks.ensures.prefix)
+    rw c.in-Sinks.is (rw (to_z-of_z w64 c.in-Sinks.first fit, to_z-of_z w64 c.in-Sinks.second fit') at c.write_several-in-Sinks.ensures)

@@ -1,22 +1,16 @@
 use Rattle.std.proofs.Common.{w64, FitsSigned, rules}
 use Rattle.std.proofs.lemmas.Int.{to_z-of_z}
-use Rattle.std.proofs.lemmas.Result.{on_err_weaker, on_ok_weaker}
-use Rattle.st_port.proofs.PieceLemmas.{GainsFront-after, GainsFront-longer, Gains-append, on_err}
+use Rattle.std.proofs.lemmas.Result.{err_from_is_err_and}
+use Rattle.st_port.proofs.Public.{Writes-after, Writes-longer}
 use Rattle.st_report.proofs.telling.write_several.Goals as goal
 
-pub returns-in_err-write_number-clause-prefix : goal.returns-in_err-write_number-clause-prefix
-returns-in_err-write_number-clause-prefix g c = on_err _ (GainsFront-longer _ _ _ _ c.in_err-write_number.ensures.prefix)
+pub returns-in_err-write_number : goal.returns-in_err-write_number
+returns-in_err-write_number g c =
+    let p = err_from_is_err_and c.from_residual.result c.from_residual.ensures.1 in
+    rw p.1 (Writes-longer _ _ _ _ _ c.in_err-write_number.ensures)
 
-pub returns-clause-prefix : goal.returns-clause-prefix
-returns-clause-prefix g c =
+pub returns : goal.returns
+returns g c =
     let fit : FitsSigned w64 c.args.first = search rules in
     let fit' : FitsSigned w64 c.args.second = search rules in
-    rw (to_z-of_z w64 c.args.first fit, to_z-of_z w64 c.args.second fit') at
-    (on_err_weaker _ (λ part. GainsFront-after _ _ _ _ _ c.in_ok-write_number.ensures.whole part) c.write_numbers.ensures.prefix)
-
-pub returns-clause-whole : goal.returns-clause-whole
-returns-clause-whole g c =
-    let fit : FitsSigned w64 c.args.first = search rules in
-    let fit' : FitsSigned w64 c.args.second = search rules in
-    rw (to_z-of_z w64 c.args.first fit, to_z-of_z w64 c.args.second fit') at
-    (on_ok_weaker _ (λ part. Gains-append _ _ _ _ _ c.in_ok-write_number.ensures.whole part) c.write_numbers.ensures.whole)
+    rw (to_z-of_z w64 c.args.first fit, to_z-of_z w64 c.args.second fit') at (Writes-after _ _ _ _ _ _ _ c.in_ok-write_number.ensures c.write_numbers.ensures)
