@@ -1,0 +1,4 @@
+pub mod Stages
+pub mod Stops
+pub mod File
+pub mod Verdict

@@ -1,0 +1,12 @@
+//! From the bytes of a file to its planar st-graph, or to the first reason why it has none, in the names of the file.
+//!
+//! A caller goes from stage to stage: `tree_of`, `graph_of` (both as one: `graph_in`), `accept`. Each answers a `Stop` with the refusal that
+//! `specs/File.antt` and `specs/Verdict.antt` define, so that every fault can be matched.
+#![tactic(auto)]
+
+mod file;
+pub mod laws;
+mod verdict;
+
+pub use file::{graph_in, graph_of, tree_of};
+pub use verdict::{accept, name_of_edge, name_of_vertex};
