@@ -7,14 +7,12 @@ use Rattle.std.proofs.lemmas.Int.{ints}
 use Rattle.std.proofs.lemmas.Option.{slice_get-get_or}
 use Rattle.st_ids.specs.declared.names.Names.{Names}
 use Rattle.st_map.specs.Embedded.{Embedded}
-use Rattle.st_test.specs.Planar.{IsPlanarSt, StValue}
+use Rattle.st_test.specs.Planar.{StValue}
 use Rattle.st_sides.specs.Sides.{SidesValue, edge_count}
 use Rattle.st_sides.specs.SidesOf.{IsSidesOf}
 use Rattle.st_picture.specs.Naming.{AreNames, IsLabelText, vertex_name, label_text}
 use Rattle.st_input.specs.InputGraph.{InputGraph, IsConsistent, IsLabel, IsShown}
-use Rattle.st_report.specs.declared.stop.Refusal.{Refusal}
-use Rattle.stdraw_core.specs.Stages.{refuses, goes_on}
-use Rattle.stdraw_core.specs.Verdict.{IsAccepted, IsFound}
+use Rattle.st_verdict.specs.Verdict.{IsFound}
 use Rattle.st_ids.specs.declared.ids.EdgeId.{EdgeId}
 use Rattle.st_ids.specs.Walks.{Arcs, Walk, stay, step}
 use Rattle.st_shape.specs.Rules.{Drawing, IsPrintable}
@@ -30,18 +28,6 @@ use Rattle.st_words.specs.declared.words.Spot.{Spot}
 use Rattle.draw_vis.specs.Visibility.{IsVisibility, IsVisibilityBy}
 use Rattle.draw_vis.specs.Tessellation.{IsTessellation, IsTessellationBy}
 use Rattle.stdraw_core.specs.Drawing.{file_names, one_each, AnswersRows, AnswersPlaces, IsPlacedPolyline}
-
-mixed : (x : StValue) (r : Refusal) → (let a : Result StValue Refusal = Ok x in a) ≡ Err r → ⊥
-mixed x r h = cc
-
-pub found : (g : InputGraph) (st : StValue) → IsAccepted g (Ok st) → IsFound g st
-found g st (refuses r h e) = absurd (mixed st r e)
-found g st (goes_on p h (refuses r k e)) = absurd (mixed st r e)
-found g st (goes_on p h (goes_on m k planar)) = record {
-  planar = subst (λ (z : StValue). IsPlanarSt z.map.graph z.source z.sink z.outer) (sym planar.1) planar.0;
-  vertices = ap (λ (z : StValue). z.map.graph.vertices) planar.1 ∙ ap (λ (z : Embedded). z.vertices) k.0;
-  ends = ap (λ (z : StValue). z.map.graph.ends) planar.1 ∙ ap (λ (z : Embedded). z.ends) k.0;
-}
 
 -- ---- names
 all_by_place : (P : ℕ → Type 0) (xs : List ℕ) → ((i : ℕ) → i < length xs → P (get_or xs i 0)) → AllByRecursion P xs

@@ -1,7 +1,6 @@
 -- A generated graph is accepted, so no refusal comes for it.
-use Rattle.std.proofs.Common.{◌≡◌, ◌≢◌, ℕ, ◌<◌, ◌≤◌, List, Some, None, refl, sym, ap, ◌∙◌, subst, arith, [], length}
-use Rattle.std.specs.Prelude.{slice_index, slice_index_or, unwrap_or, map, Result, Ok, Err, IfOk}
-use Rattle.std.specs.List.{range_with_len}
+use Rattle.std.proofs.Common.{◌≡◌, ℕ, ◌<◌, ◌≤◌, List, Some, None, refl, sym, ap, subst, arith, [], length}
+use Rattle.std.specs.Prelude.{slice_index, unwrap_or, Result, Ok, Err, IfOk}
 use Rattle.std.proofs.lemmas.List.FromFn.{get_or-map-range_with_len}
 use Rattle.st_gen.specs.Accepted.{PassesTests, AcceptedLaw}
 use Rattle.st_gen.specs.Made.{IsMade}
@@ -15,63 +14,44 @@ use Rattle.st_map.specs.Orders.{embed}
 use Rattle.st_map.specs.declared.orders.MapFault.TheVariants as map_fault
 use Rattle.st_report.specs.declared.stop.BadPath.{BadPath}
 use Rattle.st_report.specs.declared.stop.Refusal.{Refusal}
-use Rattle.st_report.specs.declared.stop.Refusal.TheVariants.{Words, TooManyBytes, Gml, Shape, NotSt, Path, UnknownVertex}
 use Rattle.st_test.specs.Planar.{IsPlanarSt, StValue}
 use Rattle.st_test.specs.Verdict.{IsEmbedFault}
-use Rattle.st_test.specs.declared.digraph_fault.DigraphFault.{DigraphFault}
-use Rattle.st_test.specs.declared.digraph_fault.DigraphFault.TheVariants as digraph
 use Rattle.st_test.specs.declared.digraph_fault.Poles.{Poles}
-use Rattle.st_test.specs.declared.verdict.EmbedFault.{EmbedFault}
-use Rattle.st_test.specs.declared.verdict.EmbedFault.TheVariants as embedding
 use Rattle.st_report.specs.declared.stop.Stop.{Stop}
 use Rattle.st_report.specs.declared.stop.Stop.TheVariants.{Refused, ReadFault, WriteFault, NoMemory}
 use Rattle.st_words.specs.declared.words.DrawForm.{DrawForm}
 use Rattle.st_words.specs.declared.words.DrawForm.TheVariants.{Visibility, Tessellation, Constrained, Polyline, Dominance}
 use Rattle.st_words.specs.declared.words.Recipe.{Recipe}
-use Rattle.stdraw_core.specs.Answer.{AnswersDraw}
-use Rattle.stdraw_core.specs.Generated.{IsGenerated, IsLineOn, IsBenched, AnswersBench}
+use Rattle.stdraw_core.specs.Generated.{IsGenerated}
 use Rattle.st_input.specs.Plain.{default_orders, plain_graph}
 use Rattle.stdraw_core.specs.Paths.{IsBadPath, unknown_edge, first_fault}
-use Rattle.stdraw_core.specs.Stages.{Then, refuses, goes_on}
-use Rattle.stdraw_core.specs.Stops.{IsStop, StopsAt, Gives}
-use Rattle.stdraw_core.specs.Verdict.{TellsDigraph, TellsEmbedding, HasPoles, HasMap, outer_in, IsPlanar, IsAccepted}
+use Rattle.st_verdict.specs.Stages.{refuses, goes_on}
+use Rattle.st_verdict.specs.Stops.{IsStop, StopsAt, Gives}
+use Rattle.st_verdict.specs.Verdict.{TellsDigraph, TellsEmbedding, HasPoles, HasMap, outer_in, IsPlanar, IsAccepted}
+use Rattle.stdraw_core.specs.Bench.{IsLineOn, AnswersBench}
+use Rattle.stdraw_core.specs.Drawing.{AnswersDraw}
 
 module _ (g : InputGraph) (s t : ℕ) (passes : PassesTests g.graph g.orders s t) (free : g.outer ≡ None) where
   no_poles : (r : Refusal) → HasPoles g (Err r) → ⊥
-  no_poles Words h = h
-  no_poles TooManyBytes h = h
-  no_poles (Gml f) h = h
-  no_poles (Shape f) h = h
-  no_poles (UnknownVertex n) h = h
-  no_poles (Path why) h = h
-  no_poles (NotSt why) h = passes.no_digraph_fault h.0 (λ q. subst (λ z. TellsDigraph g z why) q h.2) h.1
+  no_poles r h =
+      let (fault, first, tells) = h.holds in
+      passes.no_digraph_fault fault (λ q. subst (λ z. TellsDigraph g z h.fault) q tells) first
 
   no_map : (r : Refusal) → HasMap g (Err r) → ⊥
-  no_map Words h = h
-  no_map TooManyBytes h = h
-  no_map (Gml f) h = h
-  no_map (Shape f) h = h
-  no_map (UnknownVertex n) h = h
-  no_map (Path why) h = h
-  no_map (NotSt why) h = passes.no_map_fault (map_fault.BadOrder h.0) (λ q. cc) h.1
+  no_map r h = passes.no_map_fault (map_fault.BadOrder h.fault) (λ q. cc) h.holds
 
   -- the outer end is the first at the source, since none is named
   first_end : (m : Embedded) (a : ℕ) → outer_in g m a ≡ slice_index (order m a) 0
   first_end m a = ap (λ z. unwrap_or z (slice_index (order m a) 0)) free
 
   no_plane : (p : Poles) (m : Embedded) (r : Refusal) → p.source.0 ≡ s → p.sink.0 ≡ t → m ≡ embed g.graph g.orders → IsPlanar g p m (Err r) → ⊥
-  no_plane p m Words qs qt qm h = h
-  no_plane p m TooManyBytes qs qt qm h = h
-  no_plane p m (Gml f) qs qt qm h = h
-  no_plane p m (Shape f) qs qt qm h = h
-  no_plane p m (UnknownVertex n) qs qt qm h = h
-  no_plane p m (Path why) qs qt qm h = h
-  no_plane p m (NotSt why) qs qt qm h =
-      passes.no_embed_fault h.0 (λ q. subst (λ z. TellsEmbedding z why) q h.2)
-      (subst (λ z. IsEmbedFault z s t (slice_index (order z s) 0) h.0) qm
-      (subst (λ z. IsEmbedFault m s z (slice_index (order m s) 0) h.0) qt
-      (subst (λ z. IsEmbedFault m z p.sink.0 (slice_index (order m z) 0) h.0) qs
-      (subst (λ z. IsEmbedFault m p.source.0 p.sink.0 z h.0) (first_end m p.source.0) h.1))))
+  no_plane p m r qs qt qm h =
+      let (fault, is, tells) = h.holds in
+      passes.no_embed_fault fault (λ q. subst (λ z. TellsEmbedding z h.fault) q tells)
+      (subst (λ z. IsEmbedFault z s t (slice_index (order z s) 0) fault) qm
+      (subst (λ z. IsEmbedFault m s z (slice_index (order m s) 0) fault) qt
+      (subst (λ z. IsEmbedFault m z p.sink.0 (slice_index (order m z) 0) fault) qs
+      (subst (λ z. IsEmbedFault m p.source.0 p.sink.0 z fault) (first_end m p.source.0) is))))
 
   no_stage : (r : Refusal) (x : Result StValue Refusal) → x ≡ Err r → IsAccepted g x → ⊥
   no_stage r x e (refuses w h q) = no_poles w h
@@ -137,13 +117,7 @@ draw_given Visibility g st e r h = h
 draw_given Tessellation g st e r h = h
 draw_given (Polyline spot) g st e r h = h
 draw_given Dominance g st e r h = h
-draw_given Constrained g st e Words h = h
-draw_given Constrained g st e TooManyBytes h = h
-draw_given Constrained g st e (Gml f) h = h
-draw_given Constrained g st e (Shape f) h = h
-draw_given Constrained g st e (NotSt why) h = h
-draw_given Constrained g st e (Path why) h = no_bad_path g st why e h
-draw_given Constrained g st e (UnknownVertex n) h = h
+draw_given Constrained g st e r h = no_bad_path g st h.fault e h.holds
 
 pub bench_gives : (r : Recipe) (form : DrawForm) (g : InputGraph) (st : StValue) → IsGenerated r g → IsAccepted g (Ok st) → (result : Result (List ℕ) Stop) → IfOk result (IsLineOn form g st) → StopsAt (AnswersDraw form g st) result
     → Gives (AnswersBench r form) result

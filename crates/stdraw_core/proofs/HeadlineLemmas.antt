@@ -1,5 +1,5 @@
 -- A drawing is written exactly where the file has a planar st-graph, and it is a right one; so it is with the lines of a query.
-use Rattle.std.proofs.Common.{◌≡◌, ◌≢◌, ℕ, ℤ, List, Some, None, refl, sym, ap, ◌∙◌, subst, arith}
+use Rattle.std.proofs.Common.{◌≡◌, ◌≢◌, ℕ, ℤ, List, Some, None, refl, sym, ◌∙◌, subst, arith}
 use Rattle.std.specs.Prelude.{Result, Ok, Err, IfSome}
 use Rattle.std.specs.declared.option.Option.{Option}
 use Rattle.st_input.specs.InputGraph.{InputGraph, IsConsistent}
@@ -26,36 +26,21 @@ use Rattle.st_words.specs.declared.words.DrawForm.TheVariants.{Visibility, Tesse
 use Rattle.st_report.specs.declared.stop.Refusal.{Refusal}
 use Rattle.st_report.specs.declared.stop.Status.{Status}
 use Rattle.st_report.specs.declared.stop.Status.TheVariants as status
-use Rattle.stdraw_core.specs.Answer.{Asks, IsFew, IsTree, IsGraph, Answers, AnswersGraph, AnswersFile, AnswersTask, IsAnswer}
+use Rattle.stdraw_core.specs.Answer.{Asks, Answers, AnswersGraph, AnswersFile, AnswersTask, IsAnswer}
 use Rattle.stdraw_core.specs.Drawing.{one_each, file_names, IsPictureOf, IsRightPicture, Draws, ShowsFile}
 use Rattle.stdraw_core.specs.Headline.{IsPlanarFile, HeadlineFor, Headline, QueryHeadlineFor, QueryHeadline}
 use Rattle.stdraw_core.specs.Query.{names_of}
-use Rattle.stdraw_core.specs.Run.{IsTold, IsDone, EndsBy}
-use Rattle.stdraw_core.specs.Stages.{Then, refuses, goes_on, IsOne}
+use Rattle.stdraw_core.specs.Run.{IsTold, IsDone, EndsBy, is_done, is_refused, is_unread, is_cut, no_memory}
+use Rattle.st_verdict.specs.Stages.{goes_on, IsOne}
 use Rattle.stdraw_core.specs.Paths.{AreSidesIn}
-use Rattle.stdraw_core.specs.Verdict.{IsAccepted, IsFound}
+use Rattle.st_verdict.specs.Verdict.{IsAccepted, IsFound}
 use Rattle.st_words.specs.declared.words.Task.TheVariants.{File}
 use Rattle.st_words.specs.Words.{IsCommand}
-use Rattle.stdraw_core.proofs.DrawingLemmas.{found, names_meet}
-use Rattle.stdraw_core.proofs.OneAnswer.{asks_one, few_one, tree_one, graph_one, consistent, query_err, known_unknown}
-use Rattle.stdraw_core.proofs.VerdictOne.{accepted_one}
-use Rattle.stdraw_core.proofs.StageLemmas.{same_ok, mixed}
-
--- ---- a stage that has found its value
--- what follows is what the next stage says of that value
-pub next_says : {A B : Type 0} (first : Result A Refusal → Type 0) (next : A → Result B Refusal → Type 0) → IsOne first → (a : A) → first (Ok a) → (answer : Result B Refusal) → Then first next answer → next a answer
-next_says first next one a h answer (refuses r k e) = absurd (mixed a r (one (Ok a) (Err r) h k))
-next_says first next one a h answer (goes_on b k f) = subst (λ z. next z answer) (sym (same_ok a b (one (Ok a) (Ok b) h k))) f
-
--- where the answer is a value, the stage has found one
-pub record Found {A B : Type 0} (first : Result A Refusal → Type 0) (next : A → Result B Refusal → Type 0) (answer : Result B Refusal) : Type 0 where
-  pub value : A
-  pub is : first (Ok value)
-  pub goes : next value answer
-
-value_found : {A B : Type 0} (first : Result A Refusal → Type 0) (next : A → Result B Refusal → Type 0) (b : B) → Then first next (Ok b) → Found first next (Ok b)
-value_found first next b (refuses r k e) = absurd (mixed b r e)
-value_found first next b (goes_on a k f) = record { value = a; is = k; goes = f }
+use Rattle.stdraw_core.proofs.DrawingLemmas.{names_meet}
+use Rattle.stdraw_core.proofs.OneAnswer.{asks_one, known_unknown}
+use Rattle.stdraw_core.proofs.RunLemmas.{refused_not_done}
+use Rattle.st_verdict.specs.File.{IsFew, IsTree, IsGraph, IsGraphIn, IsGraphWithin}
+use Rattle.st_verdict.proofs.Public.{next_says, value_found, found, accepted_one, graph_within_one, consistent}
 
 -- ---- what was answered to the words of a command
 -- the bytes that the source had left are those that were answered
@@ -68,13 +53,15 @@ pub asked : (command : Command) (words : List (List ℕ)) (left : Option (List �
 asked command words left bytes told is e f answer h =
     subst (λ z. AnswersFile command z answer) (sym (same_bytes left bytes told e f)) (next_says (Asks words) (λ task. AnswersTask task told) (asks_one words) (File command) is answer h)
 
+-- the graph of a planar file
+planar_graph : (bytes : List ℕ) (g : InputGraph) (st : StValue) → IsPlanarFile bytes g st → IsGraphWithin bytes (Ok g)
+planar_graph bytes g st file = goes_on tt file.few (goes_on file.tree file.text file.graph)
+
 -- what is answered to a planar file is what the command answers about its graph
 pub planar_says : (command : Command) (bytes : List ℕ) (g : InputGraph) (st : StValue) → IsPlanarFile bytes g st → IsOne (IsAccepted g) → (answer : Result (List ℕ) Refusal) → AnswersFile command bytes answer → Answers command g st answer
 planar_says command bytes g st file one answer h =
-    let a = next_says (IsFew bytes) (λ _. Then (IsTree bytes) (λ tree. Then (IsGraph tree) (AnswersGraph command))) (few_one bytes) tt file.few answer h in
-    let b = next_says (IsTree bytes) (λ tree. Then (IsGraph tree) (AnswersGraph command)) (tree_one bytes) file.tree file.text answer a in
-    let c = next_says (IsGraph file.tree) (AnswersGraph command) (graph_one file.tree) g file.graph answer b in
-    next_says (IsAccepted g) (Answers command g) one st file.planar answer c
+    let a = next_says (IsGraphWithin bytes) (AnswersGraph command) (graph_within_one bytes) g (planar_graph bytes g st file) answer h in
+    next_says (IsAccepted g) (Answers command g) one st file.planar answer a
 
 -- an output is that of a planar file
 pub record IsOutputOf (command : Command) (bytes out : List ℕ) : Type 0 where
@@ -85,14 +72,14 @@ pub record IsOutputOf (command : Command) (bytes out : List ℕ) : Type 0 where
 
 pub output_of : (command : Command) (bytes out : List ℕ) → AnswersFile command bytes (Ok out) → IsOutputOf command bytes out
 output_of command bytes out h =
-    let a = value_found (IsFew bytes) (λ _. Then (IsTree bytes) (λ tree. Then (IsGraph tree) (AnswersGraph command))) out h in
-    let b = value_found (IsTree bytes) (λ tree. Then (IsGraph tree) (AnswersGraph command)) out a.goes in
-    let c = value_found (IsGraph b.value) (AnswersGraph command) out b.goes in
-    let d = value_found (IsAccepted c.value) (Answers command c.value) out c.goes in
+    let a = value_found (IsGraphWithin bytes) (AnswersGraph command) out h in
+    let b = value_found (IsFew bytes) (λ _. IsGraphIn bytes) a.value a.is in
+    let c = value_found (IsTree bytes) IsGraph a.value b.goes in
+    let d = value_found (IsAccepted a.value) (Answers command a.value) out a.goes in
     record {
-      g = c.value;
+      g = a.value;
       st = d.value;
-      file = record { few = a.is; tree = b.value; text = b.is; graph = c.is; planar = d.is };
+      file = record { few = b.is; tree = c.value; text = c.is; graph = c.goes; planar = d.is };
       answers = d.goes;
     }
 
@@ -120,22 +107,12 @@ shows_file bytes form g st out file h =
 module _ (words : List (List ℕ)) (src src' : SourceState) (out out' diag diag' : SinkState) (P : Status → Type 0)
     (done : IsDone words src src' out out' → P status.Done)
     (told : (s : Status) → s ≢ status.Done → out' ≡ out → IsTold words src src' diag diag' s → P s) where
-  pub ending : (s : Status) → EndsBy words src src' out out' diag diag' s → (s ≢ status.Done → s ≢ status.WriteFault → out' ≡ out)
-      → s ≢ status.NoMemory → ¬ Rose src.faults src'.faults → ¬ Rose out.faults out'.faults → P s
-  ending status.Done h u memory read written = done h
-  ending status.ReadFault h u memory read written = absurd (read h.0.rose)
-  ending status.WriteFault h u memory read written = absurd (written h.0.rose)
-  ending status.NoMemory h u memory read written = absurd (memory refl)
-  ending status.NotSt h u memory read written = told status.NotSt (λ e. cc) (u (λ e. cc) (λ e. cc)) h
-  ending status.Words h u memory read written = told status.Words (λ e. cc) (u (λ e. cc) (λ e. cc)) h
-  ending status.Gml h u memory read written = told status.Gml (λ e. cc) (u (λ e. cc) (λ e. cc)) h
-  ending status.Limit h u memory read written = told status.Limit (λ e. cc) (u (λ e. cc) (λ e. cc)) h
-  ending status.Path h u memory read written = told status.Path (λ e. cc) (u (λ e. cc) (λ e. cc)) h
-  ending status.UnknownVertex h u memory read written = told status.UnknownVertex (λ e. cc) (u (λ e. cc) (λ e. cc)) h
-  ending status.NotClean h u memory read written = told status.NotClean (λ e. cc) (u (λ e. cc) (λ e. cc)) h
-  ending status.Eps h u memory read written = told status.Eps (λ e. cc) (u (λ e. cc) (λ e. cc)) h
-  ending status.Edit h u memory read written = told status.Edit (λ e. cc) (u (λ e. cc) (λ e. cc)) h
-  ending status.NoOrientation h u memory read written = told status.NoOrientation (λ e. cc) (u (λ e. cc) (λ e. cc)) h
+  pub ending : (s : Status) → EndsBy words src src' out out' diag diag' s → s ≢ status.NoMemory → ¬ Rose src.faults src'.faults → ¬ Rose out.faults out'.faults → P s
+  ending s (is_done is quiet h) memory read written = subst P (sym is) (done h)
+  ending s (is_refused before h) memory read written = told s (λ e. refused_not_done h.refusal (sym h.status ∙ e)) before h
+  ending s (is_unread is before h line) memory read written = absurd (read h.rose)
+  ending s (is_cut is h line) memory read written = absurd (written h.rose)
+  ending s (no_memory is before line) memory read written = absurd (memory is)
 
 -- ---- the words of a drawing
 module _ (same_poles : OnePolesAnswer) (words : List (List ℕ)) (src src' : SourceState) (out out' : SinkState) (form : DrawForm) (bytes : List ℕ)
@@ -160,9 +137,9 @@ module _ (same_poles : OnePolesAnswer) (words : List (List ℕ)) (src src' : Sou
       }
 
 pub headline : OnePolesAnswer → (words : List (List ℕ)) (src src' : SourceState) (out out' diag diag' : SinkState) (s : Status)
-    → EndsBy words src src' out out' diag diag' s → (s ≢ status.Done → s ≢ status.WriteFault → out' ≡ out) → Headline words src src' out out' s
-headline same words src src' out out' diag diag' s h u form bytes is left =
-    ending words src src' out out' diag diag' (HeadlineFor form bytes out out') (drawn_whole same words src src' out out' form bytes is left) (refused same words src src' out out' form bytes is left diag diag') s h u
+    → EndsBy words src src' out out' diag diag' s → Headline words src src' out out' s
+headline same words src src' out out' diag diag' s h form bytes is left =
+    ending words src src' out out' diag diag' (HeadlineFor form bytes out out') (drawn_whole same words src src' out out' form bytes is left) (refused same words src src' out out' form bytes is left diag diag') s h
 
 -- ---- the words of a query
 module _ (same_poles : OnePolesAnswer) (words : List (List ℕ)) (src src' : SourceState) (out out' : SinkState) (pairs : List (ℤ × ℤ)) (bytes : List ℕ)
@@ -182,17 +159,13 @@ module _ (same_poles : OnePolesAnswer) (words : List (List ℕ)) (src src' : Sou
       let answer = asked (Query pairs) words src.left bytes r.bytes is left r.told (Err h.refusal) r.answer in
       record {
         answered = λ g st file known.
-            let first = query_err pairs g st h.refusal (planar_says (Query pairs) bytes g st file (accepted_one same_poles g) (Err h.refusal) answer) in
-            absurd (known_unknown g (names_of pairs) first.0 known first.2);
+            let first = planar_says (Query pairs) bytes g st file (accepted_one same_poles g) (Err h.refusal) answer in
+            absurd (known_unknown g (names_of pairs) first.fault known first.holds);
         right = λ e. absurd (other e);
         nothing = λ n. before;
       }
 
 pub query_headline : OnePolesAnswer → (words : List (List ℕ)) (src src' : SourceState) (out out' diag diag' : SinkState) (s : Status)
-    → EndsBy words src src' out out' diag diag' s → (s ≢ status.Done → s ≢ status.WriteFault → out' ≡ out) → QueryHeadline words src src' out out' s
-query_headline same words src src' out out' diag diag' s h u pairs bytes is left =
-    ending words src src' out out' diag diag' (QueryHeadlineFor pairs bytes out out') (lines_whole same words src src' out out' pairs bytes is left) (no_lines same words src src' out out' pairs bytes is left diag diag') s h u
-
--- a sink that is as before has its state as before
-pub as_before : {K : Type 0} (state : K → SinkState) (old new : K) → new ≡ old → state new ≡ state old
-as_before state old new e = ap state e
+    → EndsBy words src src' out out' diag diag' s → QueryHeadline words src src' out out' s
+query_headline same words src src' out out' diag diag' s h pairs bytes is left =
+    ending words src src' out out' diag diag' (QueryHeadlineFor pairs bytes out out') (lines_whole same words src src' out out' pairs bytes is left) (no_lines same words src src' out out' pairs bytes is left diag diag') s h

@@ -1,10 +1,7 @@
-pub mod VerdictLemmas
 pub mod DrawingLemmas
 pub mod PolylineLemmas
 pub mod DominanceLemmas
 pub mod PathLemmas
-pub mod StageLemmas
-pub mod VerdictOne
 pub mod BenchLemmas
 pub mod GeneratedLemmas
 pub mod GeneratedOne
@@ -12,5 +9,5 @@ pub mod OneAnswer
 pub mod RunLemmas
 pub mod HeadlineLemmas
 pub mod CompleteLemmas
-pub mod AnswerLemmas
+pub mod ExactLemmas
 pub mod QueryLemmas

@@ -1,31 +1,26 @@
 -- Words and bytes have at most one answer, as each stage has.
-use Rattle.std.proofs.Common.{◌≡◌, ℕ, suc, ◌+◌, ◌*◌, ◌<◌, ◌≤◌, inl, inr, ℤ, pos, List, [], ◌∷◌, ◌++◌, length, get_or, Some, None, codes, refl, sym, ap, ◌∙◌, subst, arith}
+use Rattle.std.proofs.Common.{◌≡◌, ℕ, inl, inr, ℤ, List, [], ◌∷◌, ◌++◌, length, sym, ap, ◌∙◌, subst}
 use Rattle.std.specs.Prelude.{Ok, Err, ◌↔◌, IsTrue}
-use Rattle.gml_core.specs.Trees.{Entries}
-use Rattle.gml_core.proofs.Unique.{one_tree, one_first, not_both}
 use Rattle.st_ids.specs.Graph.{arcs_of}
 use Rattle.st_ids.specs.Walks.{Reaches}
 use Rattle.st_input.specs.InputGraph.{InputGraph, IsConsistent}
 use Rattle.st_input.specs.Names.{AreDifferent}
-use Rattle.st_input.proofs.LawLemmas.{fits_together}
 use Rattle.st_test.specs.Planar.{IsPlanarSt, StValue}
 use Rattle.st_test.specs.PolesAnswer.{OnePolesAnswer}
 use Rattle.st_words.specs.declared.words.Command.{Command}
 use Rattle.st_words.specs.declared.words.Command.TheVariants.{Query, Test, Draw}
 use Rattle.st_words.specs.declared.words.DrawForm.{DrawForm}
 use Rattle.st_words.specs.declared.words.DrawForm.TheVariants.{Visibility, Tessellation, Constrained, Polyline, Dominance}
-use Rattle.st_report.specs.declared.stop.Refusal.{Refusal}
-use Rattle.st_report.specs.declared.stop.Refusal.TheVariants.{Words, TooManyBytes, Gml, Shape, NotSt, Path, UnknownVertex}
-use Rattle.stdraw_core.specs.Stages.{IsOne}
+use Rattle.st_report.specs.declared.stop.Refusal.TheVariants.{UnknownVertex}
+use Rattle.st_verdict.specs.Stages.{IsOne}
 use Rattle.st_words.specs.declared.words.Recipe.{Recipe}
 use Rattle.st_words.specs.declared.words.Task.{Task}
 use Rattle.st_words.specs.declared.words.Task.TheVariants.{File, Gen, Bench}
-use Rattle.st_words.specs.Words.{IsTask}
 use Rattle.st_words.proofs.OneTask.{one_task_law}
 use Rattle.stdraw_core.specs.Query.{names_of, AreKnown, IsFirstUnknown, IsLine, line_of_pair, AreLines, no_line, one_line, AreAnswers}
-use Rattle.stdraw_core.specs.Verdict.{IsAccepted, IsFound}
+use Rattle.st_verdict.specs.Verdict.{IsAccepted, IsFound}
 use Rattle.stdraw_core.specs.Paths.{AreSidesIn}
-use Rattle.stdraw_core.specs.Answer.{Asks, IsFew, IsTree, IsGraph, AnswersQuery, AnswersTest, AnswersDraw, Answers, AnswersGraph, AnswersFile, AnswersTask, HaveOneAnswer, byte_limit}
+use Rattle.stdraw_core.specs.Answer.{Asks, Answers, AnswersGraph, AnswersFile, AnswersTask, HaveOneAnswer}
 use Rattle.st_ids.specs.declared.names.Names.{Names}
 use Rattle.st_shape.specs.declared.point.Point.{Point}
 use Rattle.st_shape.specs.Rules.{Drawing}
@@ -37,108 +32,23 @@ use Rattle.eps_core.specs.Text.{text}
 use Rattle.draw_dom.specs.Points.{point_of}
 use Rattle.draw_vis.proofs.SameLemmas.{pictures_law}
 use Rattle.stdraw_core.specs.Drawing.{one_each, file_names, IsPictureOf, Depicts, Draws}
-use Rattle.stdraw_core.specs.Generated.{bench_line, IsLineOn, IsBenched}
 use Rattle.stdraw_core.proofs.GeneratedOne.{same_generated, file_same}
-use Rattle.stdraw_core.proofs.DrawingLemmas.{found}
 use Rattle.stdraw_core.proofs.PolylineLemmas.{one_polyline}
 use Rattle.stdraw_core.proofs.DominanceLemmas.{one_dominance, one_points}
 use Rattle.stdraw_core.proofs.PathLemmas.{drawn_valid, one_aligned, same_refusal, valid_not_refused}
-use Rattle.stdraw_core.proofs.StageLemmas.{ok, err, same_ok, one_then, same_bool}
-use Rattle.stdraw_core.proofs.VerdictOne.{accepted_one}
+use Rattle.stdraw_core.specs.Bench.{bench_line, IsLineOn, IsBenched}
+use Rattle.stdraw_core.specs.Drawing.{AnswersDraw}
+use Rattle.stdraw_core.specs.Query.{AnswersQuery}
+use Rattle.stdraw_core.specs.Tested.{AnswersTest}
+use Rattle.st_verdict.specs.File.{IsGraphWithin}
+use Rattle.st_verdict.proofs.Public.{ok, err, same_ok, one_then, told_one, same_bool, found, accepted_one, graph_within_one, consistent_within}
 
 -- ---- the task
-asks_err : (words : List (List ℕ)) (r : Refusal) → Asks words (Err r) → (r ≡ Words) × ((task : Task) → IsTask words task → ⊥)
-asks_err words Words h = (refl, h)
-asks_err words TooManyBytes h = absurd h
-asks_err words (Gml f) h = absurd h
-asks_err words (Shape f) h = absurd h
-asks_err words (NotSt why) h = absurd h
-asks_err words (Path why) h = absurd h
-asks_err words (UnknownVertex n) h = absurd h
-
 pub asks_one : (words : List (List ℕ)) → IsOne (Asks words)
 asks_one words (Ok c) (Ok d) h k = ok c d (one_task_law words c d h k)
-asks_one words (Ok c) (Err s) h k = absurd ((asks_err words s k).1 c h)
-asks_one words (Err r) (Ok d) h k = absurd ((asks_err words r h).1 d k)
-asks_one words (Err r) (Err s) h k = err r s ((asks_err words r h).0 ∙ sym (asks_err words s k).0)
-
--- ---- the bytes
-few_err : (bytes : List ℕ) (r : Refusal) → IsFew bytes (Err r) → (r ≡ TooManyBytes) × (byte_limit < length bytes)
-few_err bytes Words h = absurd h
-few_err bytes TooManyBytes h = (refl, h)
-few_err bytes (Gml f) h = absurd h
-few_err bytes (Shape f) h = absurd h
-few_err bytes (NotSt why) h = absurd h
-few_err bytes (Path why) h = absurd h
-few_err bytes (UnknownVertex n) h = absurd h
-
-pub few_one : (bytes : List ℕ) → IsOne (IsFew bytes)
-few_one bytes (Ok u) (Ok v) h k = refl
-few_one bytes (Ok u) (Err s) h k = let few : length bytes ≤ byte_limit = h in absurd (omega (arith, (few_err bytes s k).1))
-few_one bytes (Err r) (Ok v) h k = let few : length bytes ≤ byte_limit = k in absurd (omega (arith, (few_err bytes r h).1))
-few_one bytes (Err r) (Err s) h k = err r s ((few_err bytes r h).0 ∙ sym (few_err bytes s k).0)
-
--- ---- the tree
-tree_apart : (bytes : List ℕ) (tree : Entries) (r : Refusal) → IsTree bytes (Ok tree) → IsTree bytes (Err r) → ⊥
-tree_apart bytes tree Words h k = k
-tree_apart bytes tree TooManyBytes h k = k
-tree_apart bytes tree (Gml f) h k = not_both bytes tree f h k
-tree_apart bytes tree (Shape f) h k = k
-tree_apart bytes tree (NotSt why) h k = k
-tree_apart bytes tree (Path why) h k = k
-tree_apart bytes tree (UnknownVertex n) h k = k
-
-tree_err : (bytes : List ℕ) (r s : Refusal) → IsTree bytes (Err r) → IsTree bytes (Err s) → r ≡ s
-tree_err bytes (Gml f) (Gml g) h k = ap (λ z. Gml z) (one_first bytes f g h k)
-tree_err bytes (Gml f) Words h k = absurd k
-tree_err bytes (Gml f) TooManyBytes h k = absurd k
-tree_err bytes (Gml f) (Shape g) h k = absurd k
-tree_err bytes (Gml f) (NotSt why) h k = absurd k
-tree_err bytes (Gml f) (Path why) h k = absurd k
-tree_err bytes (Gml f) (UnknownVertex n) h k = absurd k
-tree_err bytes Words s h k = absurd h
-tree_err bytes TooManyBytes s h k = absurd h
-tree_err bytes (Shape f) s h k = absurd h
-tree_err bytes (NotSt why) s h k = absurd h
-tree_err bytes (Path why) s h k = absurd h
-tree_err bytes (UnknownVertex n) s h k = absurd h
-
-pub tree_one : (bytes : List ℕ) → IsOne (IsTree bytes)
-tree_one bytes (Ok t) (Ok u) h k = ok t u (one_tree bytes t u h k)
-tree_one bytes (Ok t) (Err s) h k = absurd (tree_apart bytes t s h k)
-tree_one bytes (Err r) (Ok u) h k = absurd (tree_apart bytes u r k h)
-tree_one bytes (Err r) (Err s) h k = err r s (tree_err bytes r s h k)
-
--- ---- the graph
-graph_apart : (tree : Entries) (g : InputGraph) (r : Refusal) → IsGraph tree (Ok g) → IsGraph tree (Err r) → ⊥
-graph_apart tree g Words h k = k
-graph_apart tree g TooManyBytes h k = k
-graph_apart tree g (Gml f) h k = k
-graph_apart tree g (Shape f) h k = let e : None ≡ Some f = sym h.0 ∙ k in cc
-graph_apart tree g (NotSt why) h k = k
-graph_apart tree g (Path why) h k = k
-graph_apart tree g (UnknownVertex n) h k = k
-
-graph_err : (tree : Entries) (r s : Refusal) → IsGraph tree (Err r) → IsGraph tree (Err s) → r ≡ s
-graph_err tree (Shape f) (Shape g) h k = let e : Some f ≡ Some g = sym h ∙ k in ap (λ z. Shape z) (let same : f ≡ g = cc in same)
-graph_err tree (Shape f) Words h k = absurd k
-graph_err tree (Shape f) TooManyBytes h k = absurd k
-graph_err tree (Shape f) (Gml g) h k = absurd k
-graph_err tree (Shape f) (NotSt why) h k = absurd k
-graph_err tree (Shape f) (Path why) h k = absurd k
-graph_err tree (Shape f) (UnknownVertex n) h k = absurd k
-graph_err tree Words s h k = absurd h
-graph_err tree TooManyBytes s h k = absurd h
-graph_err tree (Gml f) s h k = absurd h
-graph_err tree (NotSt why) s h k = absurd h
-graph_err tree (Path why) s h k = absurd h
-graph_err tree (UnknownVertex n) s h k = absurd h
-
-pub graph_one : (tree : Entries) → IsOne (IsGraph tree)
-graph_one tree (Ok g) (Ok g') h k = let e : Some g ≡ Some g' = sym h.1 ∙ k.1 in ok g g' (let same : g ≡ g' = cc in same)
-graph_one tree (Ok g) (Err s) h k = absurd (graph_apart tree g s h k)
-graph_one tree (Err r) (Ok g') h k = absurd (graph_apart tree g' r k h)
-graph_one tree (Err r) (Err s) h k = err r s (graph_err tree r s h k)
+asks_one words (Ok c) (Err s) h k = absurd (k.1 c h)
+asks_one words (Err r) (Ok d) h k = absurd (h.1 d k)
+asks_one words (Err r) (Err s) h k = err r s (h.0 ∙ sym k.0)
 
 -- ---- the query
 -- the answers of two lines are the same where the vertices of the names are
@@ -175,23 +85,11 @@ same_unknown g (x ∷ ns) n m h k = elim h [
   | inr a ↦ elim k [ inl b ↦ absurd (b.0 a.0.0 a.0.1) | inr b ↦ same_unknown g ns n m a.1 b.1 ]
 ]
 
-pub query_err : (ps : List (ℤ × ℤ)) (g : InputGraph) (st : StValue) (r : Refusal) → AnswersQuery ps g st (Err r) → (n : ℤ) × (r ≡ UnknownVertex n) × IsFirstUnknown g (names_of ps) n
-query_err ps g st Words h = absurd h
-query_err ps g st TooManyBytes h = absurd h
-query_err ps g st (Gml f) h = absurd h
-query_err ps g st (Shape f) h = absurd h
-query_err ps g st (NotSt why) h = absurd h
-query_err ps g st (Path why) h = absurd h
-query_err ps g st (UnknownVertex n) h = (n, refl, h)
-
 query_one : (ps : List (ℤ × ℤ)) (g : InputGraph) (st : StValue) → IsConsistent g → IsPlanarSt st.map.graph st.source st.sink st.outer → IsOne (AnswersQuery ps g st)
 query_one ps g st tables planar (Ok a) (Ok b) h k = ok a b (same_answers ps g st tables planar a b h k)
-query_one ps g st tables planar (Ok a) (Err s) h k = let e = query_err ps g st s k in absurd (known_unknown g (names_of ps) e.0 h.known e.2)
-query_one ps g st tables planar (Err r) (Ok b) h k = let e = query_err ps g st r h in absurd (known_unknown g (names_of ps) e.0 k.known e.2)
-query_one ps g st tables planar (Err r) (Err s) h k =
-    let e = query_err ps g st r h in
-    let f = query_err ps g st s k in
-    err r s (e.1 ∙ ap (λ z. UnknownVertex z) (same_unknown g (names_of ps) e.0 f.0 e.2 f.2) ∙ sym f.1)
+query_one ps g st tables planar (Ok a) (Err s) h k = absurd (known_unknown g (names_of ps) k.fault h.known k.holds)
+query_one ps g st tables planar (Err r) (Ok b) h k = absurd (known_unknown g (names_of ps) h.fault k.known h.holds)
+query_one ps g st tables planar (Err r) (Err s) h k = err r s (told_one (λ name. UnknownVertex name) (IsFirstUnknown g (names_of ps)) (same_unknown g (names_of ps)) r s h k)
 
 -- ---- the test
 test_one : (g : InputGraph) (st : StValue) → IsOne (AnswersTest g st)
@@ -233,17 +131,12 @@ answers_one (Query ps) g st tables is = query_one ps g st tables (found g st is)
 answers_one Test g st tables is = test_one g st
 answers_one (Draw form) g st tables is = draw_one form g st tables (found g st is)
 
--- the tables of a file's graph fit together
-pub consistent : (tree : Entries) (g : InputGraph) → IsGraph tree (Ok g) → IsConsistent g
-consistent tree g is = fits_together tree 20000 60000 g (omega arith) (omega arith) is.0 is.1
-
 module _ (answer_same : OnePolesAnswer) where
   graph_answers_one : (c : Command) (g : InputGraph) → IsConsistent g → IsOne (AnswersGraph c g)
   graph_answers_one c g tables = one_then (IsAccepted g) (Answers c g) (accepted_one answer_same g) (λ st is. answers_one c g st tables is)
 
   file_answers_one : (c : Command) (bytes : List ℕ) → IsOne (AnswersFile c bytes)
-  file_answers_one c bytes = one_then (IsFew bytes) _ (few_one bytes)
-      (λ u _. one_then (IsTree bytes) _ (tree_one bytes) (λ tree _. one_then (IsGraph tree) (AnswersGraph c) (graph_one tree) (λ g is. graph_answers_one c g (consistent tree g is))))
+  file_answers_one c bytes = one_then (IsGraphWithin bytes) (AnswersGraph c) (graph_within_one bytes) (λ g is. graph_answers_one c g (consistent_within bytes g is))
 
   bench_same : (r : Recipe) (form : DrawForm) (a b : List ℕ) → IsBenched r form a → IsBenched r form b → a ≡ b
   bench_same r form a b h k =

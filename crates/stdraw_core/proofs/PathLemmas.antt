@@ -38,10 +38,12 @@ use Rattle.st_words.specs.declared.words.DrawForm.TheVariants.{Visibility, Tesse
 use Rattle.st_report.specs.declared.stop.BadPath.{BadPath}
 use Rattle.st_report.specs.declared.stop.BadPath.TheVariants.{UnknownEdge}
 use Rattle.st_report.specs.declared.stop.Refusal.{Refusal}
-use Rattle.st_report.specs.declared.stop.Refusal.TheVariants.{Words, TooManyBytes, Gml, Shape, NotSt, Path, UnknownVertex}
+use Rattle.st_report.specs.declared.stop.Refusal.TheVariants.{Path}
 use Rattle.stdraw_core.specs.Drawing.{one_each, Draws, IsAlignedPicture}
 use Rattle.stdraw_core.specs.Paths.{AreSidesIn, HasKnownEdges, HasValidPaths, IsBadPath, RefusesDraw, TellsPath, first_fault, paths_in, unknown_edge}
-use Rattle.stdraw_core.specs.Verdict.{IsFound}
+use Rattle.st_verdict.specs.Verdict.{IsFound}
+use Rattle.st_verdict.specs.Stages.{IsToldBy}
+use Rattle.st_verdict.proofs.Public.{told_one}
 use Rattle.stdraw_core.proofs.DrawingLemmas.{same_greatest}
 
 -- edges of the file's graph are edges of the sides
@@ -123,19 +125,10 @@ module _ (g : InputGraph) (st : StValue) (tables : IsConsistent g) (is : IsFound
       let one : y ≡ x = same_sides y x are' are in
       (fault_law x (are_sides x are) (paths_in g) (edges_there x are.sides known)).none f sound (subst (λ (z : SidesValue). IsFirstFault z (paths_in g) f) one first)
 
-  bad_of : (r : Refusal) → RefusesDraw Constrained g st r → (why : BadPath) × (r ≡ Path why) × IsBadPath g st why
-  bad_of Words h = absurd h
-  bad_of TooManyBytes h = absurd h
-  bad_of (Gml f) h = absurd h
-  bad_of (Shape f) h = absurd h
-  bad_of (NotSt why) h = absurd h
-  bad_of (Path why) h = (why, refl, h)
-  bad_of (UnknownVertex n) h = absurd h
-
   pub valid_not_refused : (form : DrawForm) (r : Refusal) → HasValidPaths form g st → RefusesDraw form g st r → ⊥
   valid_not_refused Visibility r h k = k
   valid_not_refused Tessellation r h k = k
-  valid_not_refused Constrained r h k = let bad = bad_of r k in sound_not_bad h.sides h.are h.known h.sound bad.0 bad.2
+  valid_not_refused Constrained r h k = sound_not_bad h.sides h.are h.known h.sound k.fault k.holds
   valid_not_refused (Polyline spot) r h k = k
   valid_not_refused Dominance r h k = k
 
@@ -149,10 +142,7 @@ module _ (g : InputGraph) (st : StValue) (tables : IsConsistent g) (is : IsFound
   pub same_refusal : (form : DrawForm) (r s : Refusal) → RefusesDraw form g st r → RefusesDraw form g st s → r ≡ s
   same_refusal Visibility r s h k = absurd h
   same_refusal Tessellation r s h k = absurd h
-  same_refusal Constrained r s h k =
-      let a = bad_of r h in
-      let b = bad_of s k in
-      a.1 ∙ ap (λ z. Path z) (same_bad a.0 b.0 a.2 b.2) ∙ sym b.1
+  same_refusal Constrained r s h k = told_one (λ why. Path why) (IsBadPath g st) same_bad r s h k
   same_refusal (Polyline spot) r s h k = absurd h
   same_refusal Dominance r s h k = absurd h
 
@@ -189,3 +179,6 @@ crossing_there g st x is of S ps there p q v h =
     let l : v.0 < x.vertices = subst (λ z. z < x.vertices) h.fault.3.at (S.head_in e (there h.path e h.there i)) in
     let m : x.vertices ≡ g.graph.vertices = of.vertices ∙ is.vertices in
     omega arith
+
+pub told_by : (g : InputGraph) (st : StValue) (why : BadPath) → IsBadPath g st why → IsToldBy (λ z. Path z) (IsBadPath g st) (Path why)
+told_by g st why h = record { fault = why; is = refl; holds = h }

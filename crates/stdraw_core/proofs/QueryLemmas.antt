@@ -9,7 +9,11 @@ use Rattle.st_input.specs.InputGraph.{InputGraph}
 use Rattle.st_picture.specs.Items.{origin}
 use Rattle.st_shape.specs.declared.point.Point.{Point}
 use Rattle.draw_dom.specs.Points.{AreAtMost, point_of}
-use Rattle.stdraw_core.specs.Query.{IsNamed, IsKnown, IsUnknown, names_of, AreKnown, IsFirstUnknown, line_of_pair, IsLine, AreLines, no_line, one_line}
+use Rattle.st_report.specs.declared.stop.Refusal.TheVariants.{UnknownVertex}
+use Rattle.st_report.specs.declared.stop.Stop.{Stop}
+use Rattle.st_report.specs.declared.stop.Stop.TheVariants.{Refused}
+use Rattle.st_verdict.specs.Stops.{IsStop}
+use Rattle.stdraw_core.specs.Query.{AnswersPairs, IsNamed, IsKnown, IsUnknown, names_of, AreKnown, IsFirstUnknown, line_of_pair, IsLine, AreLines, no_line, one_line}
 
 -- ---- names
 pub known_push : (g : InputGraph) (ps : List (ℤ × ℤ)) (p : ℤ × ℤ) → AreKnown g (names_of ps) → IsKnown g p.0 → IsKnown g p.1 → AreKnown g (names_of (ps ++ p ∷ []))
@@ -88,3 +92,7 @@ answered_push g points ps r out out' n m u v answer p q h e f pair text =
       known = known_push g ps r h.known (u, same.from) (v, same.to);
       lines = subst (λ t. AreLines g points (ps ++ r ∷ []) t) (sym text') (lines_push g points ps r out (line_of_pair r.0 r.1 answer p q) h.lines line);
     }
+
+-- what is told of the first name that no vertex has
+pub unknown_stop : (g : InputGraph) (points : List Point) (ps : List (ℤ × ℤ)) (stop : Stop) (name : ℤ) → stop ≡ Refused (UnknownVertex name) → IsFirstUnknown g (names_of ps) name → IsStop (AnswersPairs ps g points) stop
+unknown_stop g points ps stop name e h = subst (λ s. IsStop (AnswersPairs ps g points) s) (sym e) (record { fault = name; is = refl; holds = h })

@@ -1,73 +1,94 @@
 -- What a run does with an answer.
-use Rattle.std.proofs.Common.{◌≡◌, ℕ, ◌<◌, ◌≤◌, List, ◌++◌, [], length, Some, None, refl, sym, ap, ◌∙◌, subst, arith, length-append, append-nil}
-use Rattle.std.specs.Prelude.{Result, Ok, Err, IfSome}
+use Rattle.std.proofs.Common.{◌≡◌, ◌≢◌, ℕ, ◌<◌, ◌≤◌, ℤ, List, ◌++◌, [], length, Some, None, refl, sym, ap, ◌∙◌, subst, arith, length-append, append-nil}
+use Rattle.std.specs.Prelude.{Result, Ok, Err, IfOk, IfSome, IsErrOf, IsTrue}
 use Rattle.std.specs.declared.option.Option.{Option}
 use Rattle.std.specs.Io.KnownBytes.{Consumes, IsAtEnd}
-use Rattle.st_port.specs.Streams.{SourceState, SinkState}
-use Rattle.st_port.specs.Reading.{ReadsWhole}
-use Rattle.st_port.specs.declared.port.ReadEnd.TheVariants.{TooLong}
+use Rattle.std.proofs.KnownBytes.{Consumes-kept}
+use Rattle.gml_core.specs.declared.fault.GmlFault.{GmlFault}
+use Rattle.gml_core.specs.Reading.{IsFirstFault}
+use Rattle.st_ids.specs.declared.limits.TheConstants.{MOST_BYTES, MOST_EDGES, MOST_VERTICES}
+use Rattle.st_ids.specs.declared.ids.VertexId.{VertexId}
+use Rattle.st_map.specs.Fault.{IsMapFault}
+use Rattle.st_map.specs.declared.orders.MapFault.TheVariants as map_fault
+use Rattle.st_port.specs.Faults.{Faults, Rose}
+use Rattle.st_port.specs.Streams.{SourceState, SinkState, Gains, GainsFront}
+use Rattle.st_port.specs.Reading.{Reads}
+use Rattle.st_port.specs.declared.port.ReadEnd.{ReadEnd}
+use Rattle.st_port.specs.declared.port.ReadEnd.TheVariants as read
+use Rattle.st_input.specs.FirstFault.{shape_fault}
+use Rattle.st_input.specs.InputGraph.{InputGraph}
+use Rattle.st_input.specs.declared.fault.ShapeFault.{ShapeFault}
 use Rattle.st_input.specs.declared.fault.ShapeFault.TheVariants as shape
 use Rattle.st_words.specs.declared.words.Command.{Command}
 use Rattle.st_words.specs.declared.words.Command.TheVariants.{Query, Test, Draw}
 use Rattle.st_words.specs.declared.words.DrawForm.{DrawForm}
 use Rattle.st_words.specs.declared.words.DrawForm.TheVariants.{Visibility, Tessellation, Constrained, Polyline, Dominance}
+use Rattle.st_report.specs.declared.stop.BadPath.{BadPath}
+use Rattle.st_report.specs.declared.stop.NotSt.{NotSt as not_st}
+use Rattle.st_report.specs.declared.stop.NotSt.TheVariants.{BadOrder}
 use Rattle.st_report.specs.declared.stop.Refusal.{Refusal}
 use Rattle.st_report.specs.declared.stop.Refusal.TheVariants.{Words, TooManyBytes, Gml, Shape, NotSt, Path, UnknownVertex}
+use Rattle.st_report.specs.declared.stop.Status.TheVariants as status
 use Rattle.st_report.specs.declared.stop.Stop.{Stop}
 use Rattle.st_report.specs.declared.stop.Stop.TheVariants.{Refused, ReadFault, WriteFault, NoMemory}
-use Rattle.stdraw_core.specs.Stages.{Then, refuses, goes_on}
-use Rattle.stdraw_core.specs.Stops.{Gives}
+use Rattle.st_report.specs.Lines.{status_of, stop_line, stop_status}
+use Rattle.st_report.specs.Telling.{Tells}
+use Rattle.st_test.specs.Planar.{StValue}
 use Rattle.st_words.specs.declared.words.Task.{Task}
 use Rattle.st_words.specs.declared.words.Task.TheVariants.{File, Gen, Bench}
 use Rattle.st_words.specs.Words.{IsCommand, IsTask, IsFileless, HasOneTask}
-use Rattle.stdraw_core.specs.Answer.{IsFew, IsTree, IsGraph, Answers, AnswersDraw, AnswersGraph, AnswersFile, AnswersTask, byte_limit}
-use Rattle.st_input.specs.InputGraph.{InputGraph}
-use Rattle.st_test.specs.Planar.{StValue}
-use Rattle.stdraw_core.specs.Verdict.{HasPoles, HasMap, IsPlanar, IsAccepted}
-use Rattle.st_report.specs.Lines.{stop_line, stop_status}
-use Rattle.st_report.specs.Telling.{Tells}
-use Rattle.stdraw_core.specs.Run.{Leaves, Reads, IsRefused, Decides, IsTold, EndsBy}
+use Rattle.st_verdict.specs.File.{IsFew, IsTree, IsGraph, IsGraphIn, IsGraphWithin}
+use Rattle.st_verdict.specs.Stages.{Then, refuses, goes_on, IsToldBy}
+use Rattle.st_verdict.specs.Stops.{Gives, StopsAt}
+use Rattle.st_verdict.specs.Verdict.{HasPoles, HasNoPoles, HasMap, IsPlanar, IsNotPlanar, IsAccepted, vertex_name}
+use Rattle.stdraw_core.specs.Answer.{Answers, AnswersGraph, AnswersTask}
+use Rattle.stdraw_core.specs.Drawing.{AnswersDraw}
+use Rattle.stdraw_core.specs.Paths.{IsBadPath}
+use Rattle.stdraw_core.specs.Query.{IsFirstUnknown, names_of}
+use Rattle.stdraw_core.specs.Run.{TakesFew, IsFailedRead, Leaves, HasRead, IsReadAs, HasNoGraph, Finds, IsReady, IsRefused, Decides, EndsBy, is_done, is_refused, is_unread, is_cut, no_memory}
 
 -- ---- what was read
 -- the bytes that are answered, where these were taken
-pub record AreRead (old new : Option (List ℕ)) (taken : List ℕ) : Type 0 where
+record AreRead (old new : Option (List ℕ)) (taken : List ℕ) : Type 0 where
   pub bytes : List ℕ
   pub told : IfSome old (λ left. left ≡ bytes)
   pub most : length taken ≤ length bytes
-  pub whole : IsAtEnd new → bytes ≡ taken
+  pub whole : IsAtEnd new → taken ≡ bytes
 
-pub read_bytes : (old new : Option (List ℕ)) (taken : List ℕ) → Consumes old new taken → AreRead old new taken
+read_bytes : (old new : Option (List ℕ)) (taken : List ℕ) → Consumes old new taken → AreRead old new taken
 read_bytes None new taken h = record { bytes = taken; told = tt; most = omega arith; whole = λ e. refl }
 read_bytes (Some xs) None taken h = absurd h
 read_bytes (Some xs) (Some ys) taken h = record {
   bytes = xs;
   told = refl;
   most = omega (arith, ap length h, length-append taken ys);
-  whole = λ e. h ∙ ap (λ l. taken ++ l) e ∙ append-nil taken;
+  whole = λ e. sym (h ∙ ap (λ l. taken ++ l) e ∙ append-nil taken);
 }
 
-pub some_bytes : (old : Option (List ℕ)) → (bytes : List ℕ) × IfSome old (λ left. left ≡ bytes)
+some_bytes : (old : Option (List ℕ)) → (bytes : List ℕ) × IfSome old (λ left. left ≡ bytes)
 some_bytes None = ([], tt)
 some_bytes (Some xs) = (xs, refl)
 
--- ---- refusals before the file is looked at
-pub words_refused : (words : List (List ℕ)) (old new : SourceState) → ((task : Task) → IsTask words task → ⊥) → IsRefused words old new Words
-words_refused words old new none =
-    let b = some_bytes old.left in
-    record { bytes = b.0; told = b.1; answer = refuses Words none refl; leaves = tt }
+-- nothing was taken
+pub takes_none : (old : Option (List ℕ)) → TakesFew old old
+takes_none None = record { taken = []; consumed = tt; few = omega arith }
+takes_none (Some xs) = record { taken = []; consumed = refl; few = omega arith }
 
-pub length_refused : (words : List (List ℕ)) (old new : SourceState) (command : Command) → IsCommand words command → ReadsWhole old.left new.left byte_limit (Err TooLong) → IsRefused words old new TooManyBytes
-length_refused words old new command asked h =
-    let b = read_bytes old.left new.left h.taken h.consumed in
-    let over : byte_limit < length h.taken = h.answered.0 in
-    record {
-      bytes = b.bytes;
-      told = b.told;
-      answer = goes_on (File command) asked (refuses TooManyBytes (let l : byte_limit < length b.bytes = omega (arith, b.most) in l) refl);
-      leaves = record { taken = h.taken; consumed = h.consumed; over = over; most = h.answered.1 };
-    }
+-- however the reading ended
+pub takes_few : {S A : Type 0} (state : S → SourceState) (old new : S) (made : A → List ℕ → Type 0) (result : Result A ReadEnd) → Reads state old new MOST_BYTES made result → TakesFew (state old).left (state new).left
+takes_few state old new made (Ok v) h = record { taken = h.taken; consumed = subst (λ z. Consumes (state old).left (state z).left h.taken) (sym h.ends.0) h.takes.consumed; few = omega (arith, h.ends.3) }
+takes_few state old new made (Err read.Failed) h = record { taken = h.taken; consumed = Consumes-kept (state old).left (state h.near).left (state new).left h.taken h.takes.consumed h.ends.0; few = omega (arith, h.ends.2) }
+takes_few state old new made (Err read.TooLong) h = record { taken = h.taken; consumed = subst (λ z. Consumes (state old).left (state z).left h.taken) (sym h.ends.0) h.takes.consumed; few = h.ends.2 }
+takes_few state old new made (Err read.NoMemory) h = record { taken = h.taken; consumed = subst (λ z. Consumes (state old).left (state z).left h.taken) (sym h.ends.0) h.takes.consumed; few = h.ends.1 }
 
--- ---- the answer to a file
+-- a failed read, whatever was made of the bytes before it
+pub failed_read : {S A : Type 0} (state : S → SourceState) (old new : S) (made : A → List ℕ → Type 0) → Reads state old new MOST_BYTES made (Err read.Failed) → IsFailedRead (state old) (state new)
+failed_read state old new made h = record { taken = h.taken; near = state h.near; takes = h.takes; ends = h.ends }
+
+failed_rose : (old new : SourceState) → IsFailedRead old new → Rose old.faults new.faults
+failed_rose old new h = subst (λ (z : Faults). Rose z new.faults) h.takes.quiet h.ends.1
+
+-- ---- refusals that a stage never gives
 abbrev NeverGives : {A : Type 0} → Refusal → (Result A Refusal → Type 0) → Type 0
 NeverGives r P = P (Err r) → ⊥
 
@@ -78,62 +99,153 @@ never_then : {A B : Type 0} (r : Refusal) (first : Result A Refusal → Type 0) 
 never_then {A} {B} r first next no_first no_next (refuses s h e) = no_first (subst (λ z. first (Err z)) (sym (same_refusal {A = B} r s e)) h)
 never_then r first next no_first no_next (goes_on a h g) = no_next a g
 
-not_accepted : (g : InputGraph) → NeverGives TooManyBytes (IsAccepted g)
-not_accepted g = never_then TooManyBytes (HasPoles g) (λ p. Then (HasMap g) (IsPlanar g p)) (λ h. h) (λ p. never_then TooManyBytes (HasMap g) (IsPlanar g p) (λ h. h) (λ m h. h))
+never_told : {F : Type 0} (make : F → Refusal) (P : F → Type 0) (r : Refusal) → ((f : F) → r ≢ make f) → IsToldBy make P r → ⊥
+never_told make P r other h = other h.fault h.is
 
-no_refusal : (form : DrawForm) (g : InputGraph) (st : StValue) → NeverGives TooManyBytes (AnswersDraw form g st)
-no_refusal Visibility g st = λ h. h
-no_refusal Tessellation g st = λ h. h
-no_refusal Constrained g st = λ h. h
-no_refusal (Polyline spot) g st = λ h. h
-no_refusal Dominance g st = λ h. h
+-- a refusal before the tree is looked at
+record IsEarly (r : Refusal) : Type 0 where
+  gml : (f : GmlFault) → r ≢ Gml f
+  shape : (f : ShapeFault) → r ≢ Shape f
+  not_st : (why : not_st) → r ≢ NotSt why
+  path : (why : BadPath) → r ≢ Path why
+  unknown : (n : ℤ) → r ≢ UnknownVertex n
 
-no_answer : (command : Command) (g : InputGraph) (st : StValue) → NeverGives TooManyBytes (Answers command g st)
-no_answer (Query pairs) g st = λ h. h
-no_answer Test g st = λ h. h
-no_answer (Draw form) g st = no_refusal form g st
+words_early : IsEarly Words
+words_early = record { gml = λ f e. cc; shape = λ f e. cc; not_st = λ why e. cc; path = λ why e. cc; unknown = λ n e. cc }
 
-not_too_long : (command : Command) (bytes : List ℕ) → length bytes ≤ byte_limit → NeverGives TooManyBytes (AnswersFile command bytes)
-not_too_long command bytes few =
-    never_then TooManyBytes (IsFew bytes) (λ _. Then (IsTree bytes) (λ tree. Then (IsGraph tree) (AnswersGraph command))) (λ (over : byte_limit < length bytes). omega (arith, few))
-    (λ u. never_then TooManyBytes (IsTree bytes) (λ tree. Then (IsGraph tree) (AnswersGraph command)) (λ h. h)
-    (λ tree. never_then TooManyBytes (IsGraph tree) (AnswersGraph command) (λ h. h)
-    (λ g. never_then TooManyBytes (IsAccepted g) (Answers command g) (not_accepted g) (no_answer command g))))
+bytes_early : IsEarly TooManyBytes
+bytes_early = record { gml = λ f e. cc; shape = λ f e. cc; not_st = λ why e. cc; path = λ why e. cc; unknown = λ n e. cc }
 
-leaves_nothing : (command : Command) (bytes : List ℕ) (old new : Option (List ℕ)) → length bytes ≤ byte_limit → IsAtEnd new → (r : Refusal) → AnswersFile command bytes (Err r) → Leaves r old new
-leaves_nothing command bytes old new few end Words h = tt
-leaves_nothing command bytes old new few end TooManyBytes h = absurd (not_too_long command bytes few h)
-leaves_nothing command bytes old new few end (Gml f) h = end
-leaves_nothing command bytes old new few end (Shape f) h = end
-leaves_nothing command bytes old new few end (NotSt why) h = end
-leaves_nothing command bytes old new few end (Path why) h = end
-leaves_nothing command bytes old new few end (UnknownVertex n) h = end
+module _ (r : Refusal) (early : IsEarly r) where
+  never_in : (bytes : List ℕ) → NeverGives r (IsGraphIn bytes)
+  never_in bytes =
+      never_then r (IsTree bytes) IsGraph (never_told (λ f. Gml f) (IsFirstFault bytes) r early.gml)
+      (λ tree. never_told (λ f. Shape f) (λ f. shape_fault tree MOST_VERTICES MOST_EDGES ≡ Some f) r early.shape)
 
-pub file_decided : (words : List (List ℕ)) (old new : SourceState) (command : Command) (text : List ℕ) (result : Result (List ℕ) Stop) → IsCommand words command → ReadsWhole old.left new.left byte_limit (Ok text) → IsAtEnd new.left
-    → Gives (AnswersFile command text) result → Decides words old new result
-file_decided words old new command text (Ok out) asked h end g =
-    let b = read_bytes old.left new.left h.taken h.consumed in
-    record { bytes = b.bytes; told = b.told; answer = goes_on (File command) asked (subst (λ z. AnswersFile command z (Ok out)) (h.answered.0 ∙ sym (b.whole end)) g); task = File command; asked = asked; read = end }
-file_decided words old new command text (Err (Refused r)) asked h end g =
-    let b = read_bytes old.left new.left h.taken h.consumed in
-    let few : length text ≤ byte_limit = omega (arith, ap length h.answered.0, h.answered.1) in
+  never_accepted : (g : InputGraph) → NeverGives r (IsAccepted g)
+  never_accepted g =
+      never_then r (HasPoles g) (λ p. Then (HasMap g) (IsPlanar g p)) (never_told (λ why. NotSt why) (HasNoPoles g) r early.not_st)
+      (λ p. never_then r (HasMap g) (IsPlanar g p)
+      (never_told (λ (v : VertexId). NotSt (BadOrder (vertex_name g v.0))) (λ v. IsMapFault g.graph g.orders (map_fault.BadOrder v)) r (λ v. early.not_st (BadOrder (vertex_name g v.0))))
+      (λ m. never_told (λ why. NotSt why) (IsNotPlanar g p m) r early.not_st))
+
+  never_drawn : (form : DrawForm) (g : InputGraph) (st : StValue) → NeverGives r (AnswersDraw form g st)
+  never_drawn Visibility g st = λ h. h
+  never_drawn Tessellation g st = λ h. h
+  never_drawn Constrained g st = never_told (λ why. Path why) (IsBadPath g st) r early.path
+  never_drawn (Polyline spot) g st = λ h. h
+  never_drawn Dominance g st = λ h. h
+
+  never_answered : (command : Command) (g : InputGraph) (st : StValue) → NeverGives r (Answers command g st)
+  never_answered (Query ps) g st = never_told (λ n. UnknownVertex n) (IsFirstUnknown g (names_of ps)) r early.unknown
+  never_answered Test g st = λ h. h
+  never_answered (Draw form) g st = never_drawn form g st
+
+  never_graph : (command : Command) (g : InputGraph) → NeverGives r (AnswersGraph command g)
+  never_graph command g = never_then r (IsAccepted g) (Answers command g) (never_accepted g) (never_answered command g)
+
+-- ---- what a refusal leaves
+-- a refusal of a stage that never refuses for the number of bytes
+leaves_end : {A : Type 0} (P : Result A Refusal → Type 0) → NeverGives TooManyBytes P → (old new : Option (List ℕ)) → IsAtEnd new → (r : Refusal) → P (Err r) → Leaves r old new
+leaves_end P never old new end Words h = tt
+leaves_end P never old new end TooManyBytes h = absurd (never h)
+leaves_end P never old new end (Gml f) h = end
+leaves_end P never old new end (Shape f) h = end
+leaves_end P never old new end (NotSt why) h = end
+leaves_end P never old new end (Path why) h = end
+leaves_end P never old new end (UnknownVertex n) h = end
+
+-- ---- the file
+-- what a call gives, by its two clauses
+pub gives_both : {A : Type 0} (stage : Result A Refusal → Type 0) (result : Result A Stop) → IfOk result (λ x. stage (Ok x)) → StopsAt stage result → Gives stage result
+gives_both stage (Ok x) ok err = ok
+gives_both stage (Err stop) ok err = err
+
+pub length_refused : {S A : Type 0} (state : S → SourceState) (old new : S) (made : A → List ℕ → Type 0) → Reads state old new MOST_BYTES made (Err read.TooLong) → HasNoGraph (state old) (state new) TooManyBytes
+length_refused state old new made h =
+    let consumed : Consumes (state old).left (state new).left h.taken = subst (λ z. Consumes (state old).left (state z).left h.taken) (sym h.ends.0) h.takes.consumed in
+    let b = read_bytes (state old).left (state new).left h.taken consumed in
+    let over : MOST_BYTES < length h.taken = h.ends.1 in
     record {
       bytes = b.bytes;
       told = b.told;
-      answer = goes_on (File command) asked (subst (λ z. AnswersFile command z (Err r)) (h.answered.0 ∙ sym (b.whole end)) g);
-      leaves = leaves_nothing command text old.left new.left few end r g;
+      refused = refuses TooManyBytes (refl, let l : MOST_BYTES < length b.bytes = omega (arith, b.most) in l) refl;
+      leaves = record { taken = h.taken; consumed = consumed; over = over; most = h.ends.2 };
     }
-file_decided words old new command text (Err ReadFault) asked h end g = absurd g
-file_decided words old new command text (Err WriteFault) asked h end g = absurd g
-file_decided words old new command text (Err NoMemory) asked h end g = tt
 
--- ---- the answer on a generated graph
-pub fileless_given : (task : Task) (bytes : List ℕ) (r : Refusal) → IsFileless task → AnswersTask task bytes (Err r) → ⊥
+module _ {S A : Type 0} (state : S → SourceState) (old new : S) (made : A → List ℕ → Type 0) (v : A) (h : Reads state old new MOST_BYTES made (Ok v)) where
+  all_read : AreRead (state old).left (state new).left h.taken
+  all_read = read_bytes (state old).left (state new).left h.taken (subst (λ z. Consumes (state old).left (state z).left h.taken) (sym h.ends.0) h.takes.consumed)
+
+  within : (answer : Result InputGraph Refusal) → IsGraphIn h.taken answer → IsGraphWithin all_read.bytes answer
+  within answer k =
+      let few : length h.taken ≤ MOST_BYTES = h.ends.3 in
+      let here : IsGraphWithin h.taken answer = goes_on tt few k in
+      subst (λ z. IsGraphWithin z answer) (all_read.whole h.ends.1) here
+
+  pub file_found : (result : Result InputGraph Stop) → ((b : List ℕ) → made v b → Gives (IsGraphIn b) result) → Finds (state old) (state new) result
+  file_found (Ok g) gives = record { bytes = all_read.bytes; told = all_read.told; graph = within (Ok g) (gives h.taken h.ends.2); end = h.ends.1 }
+  file_found (Err (Refused r)) gives = record {
+    bytes = all_read.bytes;
+    told = all_read.told;
+    refused = within (Err r) (gives h.taken h.ends.2);
+    leaves = leaves_end (IsGraphIn h.taken) (never_in TooManyBytes bytes_early h.taken) (state old).left (state new).left h.ends.1 r (gives h.taken h.ends.2);
+  }
+  file_found (Err ReadFault) gives = absurd (gives h.taken h.ends.2)
+  file_found (Err WriteFault) gives = absurd (gives h.taken h.ends.2)
+  file_found (Err NoMemory) gives = tt
+
+-- ---- the answer to a file
+pub file_stopped : (words : List (List ℕ)) (old new : SourceState) (command : Command) (stop : Stop) → IsCommand words command → Finds old new (Err stop) → Decides words old new (Err stop)
+file_stopped words old new command (Refused r) asked h = record { bytes = h.bytes; told = h.told; answer = goes_on (File command) asked (refuses r h.refused refl); leaves = h.leaves }
+file_stopped words old new command ReadFault asked h = record { command = command; asked = asked; read = h; rose = failed_rose old new h }
+file_stopped words old new command WriteFault asked h = absurd h
+file_stopped words old new command NoMemory asked h = tt
+
+pub file_decided : (words : List (List ℕ)) (old new : SourceState) (command : Command) (g : InputGraph) (result : Result (List ℕ) Stop) → IsCommand words command → IsReadAs old new g → Gives (AnswersGraph command g) result → Decides words old new result
+file_decided words old new command g (Ok out) asked h gives = record { bytes = h.bytes; told = h.told; answer = goes_on (File command) asked (goes_on g h.graph gives); task = File command; asked = asked; read = h.end }
+file_decided words old new command g (Err (Refused r)) asked h gives = record {
+  bytes = h.bytes;
+  told = h.told;
+  answer = goes_on (File command) asked (goes_on g h.graph gives);
+  leaves = leaves_end (AnswersGraph command g) (never_graph TooManyBytes bytes_early command g) old.left new.left h.end r gives;
+}
+file_decided words old new command g (Err ReadFault) asked h gives = absurd gives
+file_decided words old new command g (Err WriteFault) asked h gives = absurd gives
+file_decided words old new command g (Err NoMemory) asked h gives = tt
+
+pub same_stop : (s t : Stop) → (let a : Result (List ℕ) Stop = Err s in a) ≡ Err t → s ≡ t
+same_stop s t e = cc
+
+-- words of a command are not refused for themselves
+pub found_for_words : (old new : SourceState) (stop : Stop) → Finds old new (Err stop) → stop ≡ Refused Words → ⊥
+found_for_words old new stop h e = never_within (subst (λ z. Finds old new (Err z)) e h)
+  where
+    never_within : HasNoGraph old new Words → ⊥
+    never_within h = never_then Words (IsFew h.bytes) (λ _. IsGraphIn h.bytes) (λ k. other k.0) (λ u. never_in Words words_early h.bytes) h.refused
+      where
+        other : Words ≡ TooManyBytes → ⊥
+        other e = cc
+
+pub answered_for_words : (command : Command) (g : InputGraph) (result : Result (List ℕ) Stop) → Gives (AnswersGraph command g) result → IsErrOf result (Refused Words) → ⊥
+answered_for_words command g (Ok out) gives e = absurd (no_stop e)
+  where
+    no_stop : (let a : Result (List ℕ) Stop = Ok out in a) ≡ Err (Refused Words) → ⊥
+    no_stop e = cc
+answered_for_words command g (Err stop) gives e = never_graph Words words_early command g (subst (λ z. Gives (AnswersGraph command g) (Err z)) (same_stop stop (Refused Words) e) gives)
+
+-- ---- words that ask for no file
+pub words_refused : (words : List (List ℕ)) (old new : SourceState) → ((task : Task) → IsTask words task → ⊥) → IsRefused words old new Words
+words_refused words old new none =
+    let b = some_bytes old.left in
+    record { bytes = b.0; told = b.1; answer = refuses Words (refl, none) refl; leaves = tt }
+
+fileless_given : (task : Task) (bytes : List ℕ) (r : Refusal) → IsFileless task → AnswersTask task bytes (Err r) → ⊥
 fileless_given (File command) bytes r off h = off
 fileless_given (Gen recipe) bytes r off h = h
 fileless_given (Bench recipe form) bytes r off h = h
 
-reads_nothing : (task : Task) (s : SourceState) → IsFileless task → Reads task s s
+reads_nothing : (task : Task) (s : SourceState) → IsFileless task → HasRead task s s
 reads_nothing (File command) s off = absurd off
 reads_nothing (Gen recipe) s off = refl
 reads_nothing (Bench recipe form) s off = refl
@@ -161,30 +273,38 @@ no_fileless one words command asked (Bench r form) is off = absurd (file_or_not 
     file_or_not : File command ≡ Bench r form → ⊥
     file_or_not e = cc
 
--- ---- the end of a run that isn't done
-told : (words : List (List ℕ)) (s s' : SourceState) (d d' : SinkState) (r : Refusal) → IsRefused words s s' r → Tells d d' (stop_line (Refused r)) → IsTold words s s' d d' (stop_status (Refused r))
-told words s s' d d' r h line = record { refusal = r; refused = h; status = refl; line = line }
+-- ---- the end of a run
+pub done : (words : List (List ℕ)) (s s' : SourceState) (out out' d : SinkState) (text : List ℕ) → IsReady words s s' text → Gains out out' text → IsTrue out'.is_flushed → EndsBy words s s' out out' d d status.Done
+done words s s' out out' d text ready gains flushed = is_done refl refl (record { text = text; ready = ready; gains = gains; flushed = flushed })
+
+pub cut : (words : List (List ℕ)) (s s' : SourceState) (out out' d d' : SinkState) (text : List ℕ) → IsReady words s s' text → GainsFront out out' text → Rose out.faults out'.faults → Tells d d' (stop_line WriteFault)
+    → EndsBy words s s' out out' d d' status.WriteFault
+cut words s s' out out' d d' text ready front rose line = is_cut refl (record { text = text; ready = ready; front = front; rose = rose }) line
 
 pub stopped : (words : List (List ℕ)) (s s' : SourceState) (out d d' : SinkState) (stop : Stop) → Decides words s s' (Err stop) → Tells d d' (stop_line stop) → EndsBy words s s' out out d d' (stop_status stop)
-stopped words s s' out d d' (Refused Words) h line = told words s s' d d' Words h line
-stopped words s s' out d d' (Refused TooManyBytes) h line = told words s s' d d' TooManyBytes h line
-stopped words s s' out d d' (Refused (Gml f)) h line = told words s s' d d' (Gml f) h line
-stopped words s s' out d d' (Refused (NotSt why)) h line = told words s s' d d' (NotSt why) h line
-stopped words s s' out d d' (Refused (Path why)) h line = told words s s' d d' (Path why) h line
-stopped words s s' out d d' (Refused (UnknownVertex n)) h line = told words s s' d d' (UnknownVertex n) h line
-stopped words s s' out d d' (Refused (Shape shape.NoGraph)) h line = told words s s' d d' (Shape shape.NoGraph) h line
-stopped words s s' out d d' (Refused (Shape (shape.SecondGraph at))) h line = told words s s' d d' (Shape (shape.SecondGraph at)) h line
-stopped words s s' out d d' (Refused (Shape (shape.BadKind at))) h line = told words s s' d d' (Shape (shape.BadKind at)) h line
-stopped words s s' out d d' (Refused (Shape (shape.NoId at))) h line = told words s s' d d' (Shape (shape.NoId at)) h line
-stopped words s s' out d d' (Refused (Shape (shape.SameId id))) h line = told words s s' d d' (Shape (shape.SameId id)) h line
-stopped words s s' out d d' (Refused (Shape (shape.NoEnd e))) h line = told words s s' d d' (Shape (shape.NoEnd e)) h line
-stopped words s s' out d d' (Refused (Shape (shape.UnknownEnd e id))) h line = told words s s' d d' (Shape (shape.UnknownEnd e id)) h line
-stopped words s s' out d d' (Refused (Shape (shape.SameEdgeId id))) h line = told words s s' d d' (Shape (shape.SameEdgeId id)) h line
-stopped words s s' out d d' (Refused (Shape (shape.UnknownEdge at))) h line = told words s s' d d' (Shape (shape.UnknownEdge at)) h line
-stopped words s s' out d d' (Refused (Shape (shape.BadOuter at))) h line = told words s s' d d' (Shape (shape.BadOuter at)) h line
-stopped words s s' out d d' (Refused (Shape (shape.TooManyVertices n))) h line = told words s s' d d' (Shape (shape.TooManyVertices n)) h line
-stopped words s s' out d d' (Refused (Shape (shape.TooManyEdges m))) h line = told words s s' d d' (Shape (shape.TooManyEdges m)) h line
-stopped words s s' out d d' (Refused (Shape shape.NoMemory)) h line = told words s s' d d' (Shape shape.NoMemory) h line
-stopped words s s' out d d' ReadFault h line = (h, line)
+stopped words s s' out d d' (Refused r) h line = is_refused refl (record { refusal = r; refused = h; status = refl; line = line })
+stopped words s s' out d d' ReadFault h line = is_unread refl refl h line
 stopped words s s' out d d' WriteFault h line = absurd h
-stopped words s s' out d d' NoMemory h line = line
+stopped words s s' out d d' NoMemory h line = no_memory refl refl line
+
+-- a refusal has a status of its own
+pub refused_not_done : (r : Refusal) → status_of r ≢ status.Done
+refused_not_done Words e = cc
+refused_not_done TooManyBytes e = cc
+refused_not_done (Gml f) e = cc
+refused_not_done (NotSt why) e = cc
+refused_not_done (Path why) e = cc
+refused_not_done (UnknownVertex n) e = cc
+refused_not_done (Shape shape.NoGraph) e = cc
+refused_not_done (Shape (shape.SecondGraph at)) e = cc
+refused_not_done (Shape (shape.BadKind at)) e = cc
+refused_not_done (Shape (shape.NoId at)) e = cc
+refused_not_done (Shape (shape.SameId id)) e = cc
+refused_not_done (Shape (shape.NoEnd n)) e = cc
+refused_not_done (Shape (shape.UnknownEnd n id)) e = cc
+refused_not_done (Shape (shape.SameEdgeId id)) e = cc
+refused_not_done (Shape (shape.UnknownEdge at)) e = cc
+refused_not_done (Shape (shape.BadOuter at)) e = cc
+refused_not_done (Shape (shape.TooManyVertices n)) e = cc
+refused_not_done (Shape (shape.TooManyEdges m)) e = cc
+refused_not_done (Shape shape.NoMemory) e = cc

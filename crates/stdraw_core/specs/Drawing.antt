@@ -12,8 +12,9 @@
 --   Depicts form g st d        d is that picture, by the sides of st and in the names of the file; it keeps the rules of pictures
 --   Draws form g st out        out is the EPS text of that picture
 --   IsRightPicture form g x d  clean, rising and in order, or for a tessellation: its boxes tile the frame in order
+--   AnswersDraw form g st answer   that text, or why the paths can't be drawn
 --   ShowsFile form g st out    out is the EPS text of a right picture, in the orders of the file
-use Rattle.std.specs.Prelude.{◌≡◌, ℕ, ◌+◌, ◌-◌, ◌/◌, ◌<◌, List, ℤ, pos, length}
+use Rattle.std.specs.Prelude.{◌≡◌, ℕ, ◌+◌, ◌-◌, ◌/◌, ◌<◌, List, ℤ, pos, length, Result, Ok, Err}
 use Rattle.st_ids.specs.declared.names.Names.{Names}
 use Rattle.st_map.specs.Embedded.{Embedded, edges, order}
 use Rattle.st_test.specs.Planar.{StValue}
@@ -36,11 +37,12 @@ use Rattle.draw_vis.specs.Tessellation.{IsTessellation}
 use Rattle.draw_vis.specs.Rows.{IsTessellated}
 use Rattle.eps_core.specs.Text.{text}
 use Rattle.st_input.specs.InputGraph.{InputGraph}
+use Rattle.st_report.specs.declared.stop.Refusal.{Refusal}
 use Rattle.st_words.specs.declared.words.DrawForm.{DrawForm}
 use Rattle.st_words.specs.declared.words.DrawForm.TheVariants.{Visibility, Tessellation, Constrained, Polyline, Dominance}
 use Rattle.st_words.specs.declared.words.Spot.{Spot}
 use Rattle.st_words.specs.declared.words.Spot.TheVariants.{Left, Middle, Right}
-use Rattle.stdraw_core.specs.Paths.{AreSidesIn, HasKnownEdges, paths_in}
+use Rattle.stdraw_core.specs.Paths.{AreSidesIn, HasKnownEdges, RefusesDraw, paths_in}
 
 -- each edge weighs 1
 abbrev pub one_each : ℕ → ℕ
@@ -126,3 +128,8 @@ pub record ShowsFile (form : DrawForm) (g : InputGraph) (st : StValue) (out : Li
   pub drawn : Draws form g st out
   pub right : IsRightPicture form g drawn.depicts.sides drawn.picture
   pub orders : (v : ℕ) → v < st.map.graph.vertices → IsRotation (order st.map.graph v) (clockwise (outs drawn.depicts.sides v) (ins drawn.depicts.sides v))
+
+-- what a drawing answers: the text of the picture of the form, or why the paths can't be drawn
+abbrev pub AnswersDraw : DrawForm → InputGraph → StValue → Result (List ℕ) Refusal → Type 0
+AnswersDraw form g st (Ok out) = Draws form g st out
+AnswersDraw form g st (Err refusal) = RefusesDraw form g st refusal

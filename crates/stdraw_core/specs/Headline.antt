@@ -18,16 +18,17 @@ use Rattle.st_words.specs.declared.words.Command.TheVariants.{Draw, Query}
 use Rattle.st_words.specs.declared.words.DrawForm.{DrawForm}
 use Rattle.st_report.specs.declared.stop.Status.{Status}
 use Rattle.st_report.specs.declared.stop.Status.TheVariants as status
-use Rattle.stdraw_core.specs.Answer.{IsGraph, byte_limit}
 use Rattle.stdraw_core.specs.Drawing.{ShowsFile}
 use Rattle.stdraw_core.specs.Paths.{HasValidPaths}
 use Rattle.stdraw_core.specs.Query.{AreAnswers, AreKnown, names_of}
-use Rattle.stdraw_core.specs.Verdict.{IsAccepted}
+use Rattle.st_verdict.specs.Verdict.{IsAccepted}
 use Rattle.st_words.specs.Words.{IsCommand}
+use Rattle.st_ids.specs.declared.limits.TheConstants.{MOST_BYTES}
+use Rattle.st_verdict.specs.File.{IsGraph}
 
 -- the bytes are the text of a tree that has a graph within the limits, and this is a planar st-graph
 pub record IsPlanarFile (bytes : List ℕ) (g : InputGraph) (st : StValue) : Type 0 where
-  pub few : length bytes ≤ byte_limit
+  pub few : length bytes ≤ MOST_BYTES
   pub tree : Entries
   pub text : IsText bytes tree
   pub graph : IsGraph tree (Ok g)

@@ -1,12 +1,12 @@
-pub mod Stages
 pub mod Paths
 pub mod Drawing
 pub mod Query
-pub mod Verdict
+pub mod Tested
 pub mod Generated
+pub mod Bench
 pub mod Answer
 pub mod Outputs
-pub mod Stops
 pub mod Run
+pub mod Exact
 pub mod Headline
 pub mod Complete

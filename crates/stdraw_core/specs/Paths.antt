@@ -26,7 +26,8 @@ use Rattle.st_report.specs.declared.stop.BadPath.{BadPath}
 use Rattle.st_report.specs.declared.stop.BadPath.TheVariants.{UnknownEdge, NotAPath, SharedEdge, Crossing}
 use Rattle.st_report.specs.declared.stop.Refusal.{Refusal}
 use Rattle.st_report.specs.declared.stop.Refusal.TheVariants.{Path}
-use Rattle.stdraw_core.specs.Verdict.{vertex_name, edge_name}
+use Rattle.st_verdict.specs.Stages.{IsToldBy}
+use Rattle.st_verdict.specs.Verdict.{vertex_name, edge_name}
 
 -- the paths of the file: the edges of each, by number
 abbrev pub paths_in : InputGraph → List (List ℕ)
@@ -69,5 +70,5 @@ pub data IsBadPath (g : InputGraph) (st : StValue) (why : BadPath) : Type 0 wher
 
 -- the form that looks at paths refuses them where they aren't valid; no other form refuses
 abbrev pub RefusesDraw : DrawForm → InputGraph → StValue → Refusal → Type 0
-RefusesDraw Constrained g st (Path why) = IsBadPath g st why
+RefusesDraw Constrained g st refusal = IsToldBy (λ why. Path why) (IsBadPath g st) refusal
 RefusesDraw form g st refusal = ⊥

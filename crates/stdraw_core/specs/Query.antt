@@ -9,17 +9,21 @@
 --   line_of_pair ..            both names, the answer, both points
 --   IsLine, AreLines           a line that answers a pair, and one line a pair
 --   AreAnswers g st pairs out  those lines, with the points of the dominance drawing
-use Rattle.std.specs.Prelude.{◌≡◌, ℕ, ◌<◌, ◌⊎◌, ◌↔◌, ℤ, Bool, IsTrue, if◌then◌else◌, List, [], ◌∷◌, ◌++◌, slice_get, Some, codes}
+--   AnswersPairs, AnswersQuery   those lines, or the first name that no vertex has
+use Rattle.std.specs.Prelude.{◌≡◌, ℕ, ◌<◌, ◌⊎◌, ◌↔◌, ℤ, Bool, IsTrue, if◌then◌else◌, List, [], ◌∷◌, ◌++◌, slice_get, Some, codes, Result, Ok, Err}
 use Rattle.std.specs.Fmt.{signed_decimal}
 use Rattle.st_ids.specs.Walks.{Reaches}
 use Rattle.st_ids.specs.Graph.{Graph, arcs_of}
 use Rattle.st_input.specs.InputGraph.{InputGraph}
+use Rattle.st_report.specs.declared.stop.Refusal.{Refusal}
+use Rattle.st_report.specs.declared.stop.Refusal.TheVariants.{UnknownVertex}
 use Rattle.st_shape.specs.declared.point.Point.{Point}
 use Rattle.st_shape.specs.Rules.{Drawing}
 use Rattle.st_sides.specs.Sides.{SidesValue}
 use Rattle.st_test.specs.Planar.{StValue}
 use Rattle.draw_dom.specs.Points.{AreAtMost, point_of}
 use Rattle.draw_dom.specs.Shown.{IsDominanceOf}
+use Rattle.st_verdict.specs.Stages.{IsToldBy}
 use Rattle.stdraw_core.specs.Drawing.{file_names}
 use Rattle.stdraw_core.specs.Paths.{AreSidesIn}
 
@@ -96,3 +100,13 @@ pub record AreAnswers (g : InputGraph) (st : StValue) (pairs : List (ℤ × ℤ)
   pub points : List Point
   pub are : ArePoints g st points
   pub lines : AreLines g points pairs out
+
+-- what is answered to pairs with these points: one line a pair, or the first name that no vertex has
+abbrev pub AnswersPairs : List (ℤ × ℤ) → InputGraph → List Point → Result (List ℕ) Refusal → Type 0
+AnswersPairs pairs g points (Ok out) = AreKnown g (names_of pairs) × AreLines g points pairs out
+AnswersPairs pairs g points (Err r) = IsToldBy (λ name. UnknownVertex name) (IsFirstUnknown g (names_of pairs)) r
+
+-- what a query answers: the same with the points of the dominance drawing
+abbrev pub AnswersQuery : List (ℤ × ℤ) → InputGraph → StValue → Result (List ℕ) Refusal → Type 0
+AnswersQuery pairs g st (Ok out) = AreAnswers g st pairs out
+AnswersQuery pairs g st (Err r) = IsToldBy (λ name. UnknownVertex name) (IsFirstUnknown g (names_of pairs)) r

@@ -1,12 +1,20 @@
--- How a run ends, for any source and sinks: by its status.
---   Reads                  what a task with an output has read: a file to its end, or nothing
+-- How a run ends, for any source and sinks.
+--   TakesAtMost            at most so many bytes were taken from the source
+--   IsFailedRead           reads gave their bytes, and then one failed
+--   Leaves, HasRead        what a refusal, and a task with an output, leave of the source
+--   Finds                  what a file was found to be: a graph, or why it has none
 --   IsReady, IsRefused     the answer to the bytes is an output, or a refusal, and what was read for it
---   EndsBy                 what each status says
+--   Decides                what was found out before anything was written
+--   EndsBy                 the five ways to end, with the status of each
 -- The bytes are those that the source had left, where it tells them.
 use Rattle.std.specs.Prelude.{◌≡◌, ℕ, ◌+◌, ◌<◌, ◌≤◌, List, length, IfSome, IsTrue, Result, Ok, Err}
 use Rattle.std.specs.declared.option.Option.{Option}
 use Rattle.std.specs.Io.KnownBytes.{Consumes, IsAtEnd}
+use Rattle.st_ids.specs.declared.limits.TheConstants.{MOST_BYTES}
+use Rattle.st_input.specs.InputGraph.{InputGraph}
 use Rattle.st_port.specs.Faults.{Rose}
+use Rattle.st_port.specs.Reading.{Reads}
+use Rattle.st_port.specs.declared.port.ReadEnd.TheVariants.{Failed}
 use Rattle.st_port.specs.Streams.{SourceState, SinkState, Gains, GainsFront}
 use Rattle.st_words.specs.declared.words.Command.{Command}
 use Rattle.st_report.specs.declared.stop.Status.{Status}
@@ -18,16 +26,33 @@ use Rattle.st_report.specs.declared.stop.Stop.TheVariants.{Refused, ReadFault, W
 use Rattle.st_words.specs.declared.words.Task.{Task}
 use Rattle.st_words.specs.declared.words.Task.TheVariants.{File, Gen, Bench}
 use Rattle.st_words.specs.Words.{IsCommand, IsTask}
-use Rattle.stdraw_core.specs.Answer.{IsAnswer, byte_limit}
 use Rattle.st_report.specs.Telling.{Tells}
 use Rattle.st_report.specs.Lines.{status_of, line_of, stop_line}
+use Rattle.st_verdict.specs.File.{IsGraphWithin}
+use Rattle.stdraw_core.specs.Answer.{IsAnswer}
+
+-- at most so many bytes were taken
+pub record TakesAtMost (most : ℕ) (old new : Option (List ℕ)) : Type 0 where
+  pub taken : List ℕ
+  pub consumed : Consumes old new taken
+  pub few : length taken ≤ most
+
+-- what any run takes at most: the limit and one read
+abbrev pub TakesFew : Option (List ℕ) → Option (List ℕ) → Type 0
+TakesFew old new = TakesAtMost (MOST_BYTES + 4096) old new
 
 -- more bytes than the limit were taken, by less than one read
 pub record TakesPastLimit (old new : Option (List ℕ)) : Type 0 where
   pub taken : List ℕ
   pub consumed : Consumes old new taken
-  pub over : byte_limit < length taken
-  pub most : length taken ≤ byte_limit + 4096
+  pub over : MOST_BYTES < length taken
+  pub most : length taken ≤ MOST_BYTES + 4096
+
+-- Reads gave their bytes, at most as many as the limit, and counted no fault. Then one failed, took nothing and counted a fault.
+-- This speaks of what the source tells. That nothing is read behind the failed read is said by `Reads` of the source itself, where
+-- it is read.
+abbrev pub IsFailedRead : SourceState → SourceState → Type 0
+IsFailedRead old new = Reads {S = SourceState} {A = Unit {0}} (λ s. s) old new MOST_BYTES (λ _ _. Unit {0}) (Err Failed)
 
 -- what a refusal leaves of the source
 abbrev pub Leaves : Refusal → Option (List ℕ) → Option (List ℕ) → Type 0
@@ -36,10 +61,32 @@ Leaves TooManyBytes old new = TakesPastLimit old new
 Leaves _ old new = IsAtEnd new
 
 -- what a task with an output has read: a file to its end; for a generated graph nothing
-abbrev pub Reads : Task → SourceState → SourceState → Type 0
-Reads (File command) old new = IsAtEnd new.left
-Reads (Gen r) old new = new ≡ old
-Reads (Bench r form) old new = new ≡ old
+abbrev pub HasRead : Task → SourceState → SourceState → Type 0
+HasRead (File command) old new = IsAtEnd new.left
+HasRead (Gen r) old new = new ≡ old
+HasRead (Bench r form) old new = new ≡ old
+
+-- the bytes have the graph, and were read to their end
+pub record IsReadAs (old new : SourceState) (g : InputGraph) : Type 0 where
+  pub bytes : List ℕ
+  pub told : IfSome old.left (λ left. left ≡ bytes)
+  pub graph : IsGraphWithin bytes (Ok g)
+  pub end : IsAtEnd new.left
+
+-- the bytes have no graph
+pub record HasNoGraph (old new : SourceState) (refusal : Refusal) : Type 0 where
+  pub bytes : List ℕ
+  pub told : IfSome old.left (λ left. left ≡ bytes)
+  pub refused : IsGraphWithin bytes (Err refusal)
+  pub leaves : Leaves refusal old.left new.left
+
+-- what the bytes that the source had left were found to be
+abbrev pub Finds : SourceState → SourceState → Result InputGraph Stop → Type 0
+Finds old new (Ok g) = IsReadAs old new g
+Finds old new (Err (Refused refusal)) = HasNoGraph old new refusal
+Finds old new (Err ReadFault) = IsFailedRead old new
+Finds old new (Err WriteFault) = ⊥
+Finds old new (Err NoMemory) = Unit {0}
 
 -- the answer to the bytes is an output, and the source was read as the task asks
 pub record IsReady (words : List (List ℕ)) (old new : SourceState) (text : List ℕ) : Type 0 where
@@ -48,7 +95,7 @@ pub record IsReady (words : List (List ℕ)) (old new : SourceState) (text : Lis
   pub answer : IsAnswer words bytes (Ok text)
   pub task : Task
   pub asked : IsTask words task
-  pub read : Reads task old new
+  pub read : HasRead task old new
 
 -- the answer to the bytes is a refusal
 pub record IsRefused (words : List (List ℕ)) (old new : SourceState) (refusal : Refusal) : Type 0 where
@@ -57,10 +104,11 @@ pub record IsRefused (words : List (List ℕ)) (old new : SourceState) (refusal 
   pub answer : IsAnswer words bytes (Err refusal)
   pub leaves : Leaves refusal old.left new.left
 
--- the words are a command on a file, and a read failed
+-- the words are a command on a file, and a read failed, the last one
 pub record IsUnread (words : List (List ℕ)) (old new : SourceState) : Type 0 where
   pub command : Command
   pub asked : IsCommand words command
+  pub read : IsFailedRead old new
   pub rose : Rose old.faults new.faults
 
 -- what was found out before anything was written
@@ -92,10 +140,11 @@ pub record IsTold (words : List (List ℕ)) (src src' : SourceState) (diag diag'
   pub status : s ≡ status_of refusal
   pub line : Tells diag diag' (line_of refusal)
 
--- what each status says of words, source, output and diagnostic line
-abbrev pub EndsBy : List (List ℕ) → SourceState → SourceState → SinkState → SinkState → SinkState → SinkState → Status → Type 0
-EndsBy words src src' out out' diag diag' status.Done = IsDone words src src' out out'
-EndsBy words src src' out out' diag diag' status.ReadFault = IsUnread words src src' × Tells diag diag' (stop_line ReadFault)
-EndsBy words src src' out out' diag diag' status.WriteFault = IsCutShort words src src' out out' × Tells diag diag' (stop_line WriteFault)
-EndsBy words src src' out out' diag diag' status.NoMemory = Tells diag diag' (stop_line NoMemory)
-EndsBy words src src' out out' diag diag' s = IsTold words src src' diag diag' s
+-- What a run has done, and its status: the output is written, or a refusal is told, or a read failed, or the output is cut short,
+-- or memory ran out. Nothing is told where the output is written, and nothing is written where there is none.
+pub data EndsBy (words : List (List ℕ)) (src src' : SourceState) (out out' diag diag' : SinkState) (s : Status) : Type 0 where
+  is_done : s ≡ status.Done → diag' ≡ diag → IsDone words src src' out out' → EndsBy words src src' out out' diag diag' s
+  is_refused : out' ≡ out → IsTold words src src' diag diag' s → EndsBy words src src' out out' diag diag' s
+  is_unread : s ≡ status.ReadFault → out' ≡ out → IsUnread words src src' → Tells diag diag' (stop_line ReadFault) → EndsBy words src src' out out' diag diag' s
+  is_cut : s ≡ status.WriteFault → IsCutShort words src src' out out' → Tells diag diag' (stop_line WriteFault) → EndsBy words src src' out out' diag diag' s
+  no_memory : s ≡ status.NoMemory → out' ≡ out → Tells diag diag' (stop_line NoMemory) → EndsBy words src src' out out' diag diag' s

@@ -8,11 +8,12 @@ ghost use Rattle.st_picture.specs.Naming.{AreNames};
 ghost use Rattle.st_sides.specs.Sides.{edge_count};
 ghost use Rattle.st_sides.specs.SidesOf.{IsSidesOf};
 ghost use Rattle.st_input.specs.InputGraph.{IsConsistent};
-ghost use Rattle.stdraw_core.specs.Answer.{AnswersDraw, vertex_limit, edge_limit};
 ghost use Rattle.stdraw_core.specs.Drawing.{AnswersPlaces, AnswersRows, Depicts, IsPictureOf, IsReducedPicture, IsPlacedPolyline, place_of};
 ghost use Rattle.stdraw_core.specs.Paths.{AreSidesIn};
-ghost use Rattle.stdraw_core.specs.Stops.{Gives, StopsAt};
-ghost use Rattle.stdraw_core.specs.Verdict.{IsFound};
+ghost use Rattle.st_verdict.specs.Stops.{Gives, StopsAt};
+ghost use Rattle.st_verdict.specs.Verdict.{IsFound};
+ghost use Rattle.st_ids.specs.declared.limits.TheConstants.{MOST_VERTICES, MOST_EDGES};
+ghost use Rattle.stdraw_core.specs.Drawing.{AnswersDraw};
 
 use crate::output::Output;
 use crate::paths::aligned_picture;
@@ -73,8 +74,8 @@ fn placed_polyline<F: Fn(EdgeId) -> u32, G: Fn(i64, i64) -> i64>(
     requires rows { AnswersRows (F.post rows.now.closure) graph.now.map.graph }
     requires placement { IsPlacement G.pre G.post placer.now }
     requires places { AnswersPlaces spot (G.post placer.now.closure) }
-    requires high { sides.now.vertices ≤ vertex_limit }
-    requires wide { edge_count sides.now ≤ edge_limit }
+    requires high { sides.now.vertices ≤ MOST_VERTICES }
+    requires wide { edge_count sides.now ≤ MOST_EDGES }
     ensures { IfOk result (IsPlacedPolyline spot graph.now.map.graph sides.now names.now) }
 {
     laws::local(sides);
@@ -94,8 +95,8 @@ fn flagged_polyline(
     requires names { AreNames sides.now names.now }
     requires flags { AreParallel graph.now.map.graph flags.now }
     requires size { length flags.now ≡ edge_count sides.now }
-    requires high { sides.now.vertices ≤ vertex_limit }
-    requires wide { edge_count sides.now ≤ edge_limit }
+    requires high { sides.now.vertices ≤ MOST_VERTICES }
+    requires wide { edge_count sides.now ≤ MOST_EDGES }
     ensures { IfOk result (IsPlacedPolyline spot graph.now.map.graph sides.now names.now) }
 {
     let rows = |e: EdgeId| rows_of(flags, e);
@@ -115,8 +116,8 @@ fn polyline_of(
 ) -> Result<Picture, NoMemory>
     requires sides { IsSidesOf graph.now.map.graph graph.now.source graph.now.sink graph.now.outer sides.now }
     requires names { AreNames sides.now names.now }
-    requires high { sides.now.vertices ≤ vertex_limit }
-    requires wide { edge_count sides.now ≤ edge_limit }
+    requires high { sides.now.vertices ≤ MOST_VERTICES }
+    requires wide { edge_count sides.now ≤ MOST_EDGES }
     ensures { IfOk result (IsPlacedPolyline spot graph.now.map.graph sides.now names.now) }
 {
     let flags = parallel(alloc, graph)?;
@@ -132,8 +133,8 @@ fn dominance_of(
 ) -> Result<Picture, NoMemory>
     requires sides { IsSidesOf graph.map.graph graph.source graph.sink graph.outer sides.now }
     requires names { AreNames sides.now names.now }
-    requires high { sides.now.vertices ≤ vertex_limit }
-    requires wide { edge_count sides.now ≤ edge_limit }
+    requires high { sides.now.vertices ≤ MOST_VERTICES }
+    requires wide { edge_count sides.now ≤ MOST_EDGES }
     ensures { IfOk result (IsReducedPicture graph sides.now names.now) }
 {
     let drawn = dominance(alloc, graph, sides, names)?;
@@ -157,8 +158,8 @@ fn picture_of<F: Fn(EdgeId) -> u32>(
     requires weights { ones.now.edges ≡ edge_count sides.now }
     requires lawful { IsLawful F.pre F.post ones.now }
     requires ones { ones.now.most ≡ 1 }
-    requires high { sides.now.vertices ≤ vertex_limit }
-    requires wide { edge_count sides.now ≤ edge_limit }
+    requires high { sides.now.vertices ≤ MOST_VERTICES }
+    requires wide { edge_count sides.now ≤ MOST_EDGES }
     ensures picture { IfOk result (IsPictureOf form spec.now graph sides.now names.now) }
     ensures refused { StopsAt (AnswersDraw form spec.now graph) result }
 {
@@ -183,8 +184,8 @@ pub fn depict(
 ) -> Result<Picture, Stop>
     requires tables { IsConsistent spec.now }
     requires found { IsFound spec.now graph }
-    requires high { spec.now.graph.vertices ≤ vertex_limit }
-    requires wide { length spec.now.graph.ends ≤ edge_limit }
+    requires high { spec.now.graph.vertices ≤ MOST_VERTICES }
+    requires wide { length spec.now.graph.ends ≤ MOST_EDGES }
     ensures ok { IfOk result (Depicts form spec.now graph) }
     ensures err { StopsAt (AnswersDraw form spec.now graph) result }
 {
@@ -215,8 +216,8 @@ pub fn answer_draw(
 ) -> Result<Output, Stop>
     requires tables { IsConsistent spec.now }
     requires found { IsFound spec.now graph }
-    requires high { spec.now.graph.vertices ≤ vertex_limit }
-    requires wide { length spec.now.graph.ends ≤ edge_limit }
+    requires high { spec.now.graph.vertices ≤ MOST_VERTICES }
+    requires wide { length spec.now.graph.ends ≤ MOST_EDGES }
     ensures { Gives (AnswersDraw form spec.now graph) result }
 {
     match depict(alloc, form, spec, graph) {

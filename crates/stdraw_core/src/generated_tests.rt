@@ -140,6 +140,12 @@ fn measures_large_graphs(rt: HostRuntime) -> Result<(), Fail> {
         "bench 20000 1 polyline middle",
         b"bench polyline middle: 20000 vertices, ",
     )?;
+    bench_twice(
+        &rt,
+        alloc,
+        "bench 20000 1 dominance",
+        b"bench dominance: 20000 vertices, ",
+    )?;
     let file = output_of(&rt, alloc, "gen 5000 1", b"")?;
     let tested = output_of(&rt, alloc, "test", file.bytes())?;
     assert!(rt;
@@ -148,6 +154,39 @@ fn measures_large_graphs(rt: HostRuntime) -> Result<(), Fail> {
             .starts_with(b"planar st-graph: 5000 vertices, ")
     );
     assert!(rt; tested.bytes().ends_with(b", source 1, sink 2\n"));
+    Ok(())
+}
+
+// A query of this vertex with each from 1 to 1,000.
+fn query_from(alloc: Global, from: &str) -> Result<String, Fail> {
+    let mut line = String::from_str(alloc, "query")?;
+    for k in 1..1001 {
+        line = format!(in alloc; "{line} {from} {k}")?;
+    }
+    Ok(line)
+}
+
+// At how many places the word stands.
+fn count_of(text: &[u8], word: &[u8]) -> usize {
+    let mut count: usize = 0;
+    for at in 0..text.len() {
+        if text[at..].starts_with(word) {
+            count = count.saturating_add(1);
+        }
+    }
+    count
+}
+
+#[test]
+fn the_source_reaches_all_and_the_sink_itself(rt: HostRuntime) -> Result<(), Fail> {
+    let alloc = rt.alloc();
+    let file = output_of(&rt, alloc, "gen 20000 1", b"")?;
+    for (from, reached) in [("1", 1000), ("2", 1)] {
+        let line = query_from(alloc, from)?;
+        let said = output_of(&rt, alloc, line.as_str(), file.bytes())?;
+        assert_eq!(rt; count_of(said.bytes(), b"\n"), 1000, "{from}");
+        assert_eq!(rt; count_of(said.bytes(), b" yes "), reached, "{from}");
+    }
     Ok(())
 }
 

@@ -6,7 +6,7 @@
 
 mod bench;
 mod drawing;
-mod file;
+mod feeding;
 mod generated;
 pub mod laws;
 mod number;
@@ -15,7 +15,6 @@ mod paths;
 mod query;
 mod tested;
 mod top;
-mod verdict;
 
 pub use st_report::{BadPath, NameList, NotSt, Refusal, Status, Stop};
 pub use st_words::{Command, DrawForm, Pairs, Spot};

@@ -1,8 +1,7 @@
 //! What a command answers: a text, or a picture whose text is made while it is written.
-ghost use Rattle.std.specs.Prelude.{◌≡◌, OnOk, OnErr, IsTrue};
+ghost use Rattle.std.specs.Prelude.{◌≡◌, OnOk, IsTrue};
 ghost use Rattle.eps_core.specs.Text.{text as text_of};
-ghost use Rattle.st_port.specs.Faults.{GoesOn, Rose};
-ghost use Rattle.st_port.specs.Streams.{Gains, GainsFront};
+ghost use Rattle.st_port.specs.Writes.{Writes};
 
 use eps_core::write_eps;
 use st_ids::Text;
@@ -51,12 +50,9 @@ impl Output {
         }
     }
 
-    // Writes all bytes.
+    // Writes all bytes: a text at once, since it is one block, a picture line by line through a buffer.
     fn write<K: Sink>(&self, sink: &mut K) -> Result<(), Failed>
-        ensures whole { OnOk result (Gains (K.state sink.old) (K.state sink.new) self.now) }
-        ensures prefix { OnErr result (GainsFront (K.state sink.old) (K.state sink.new) self.now) }
-        ensures count { GoesOn (K.state sink.old).faults (K.state sink.new).faults }
-        ensures cause { OnErr result (Rose (K.state sink.old).faults (K.state sink.new).faults) }
+        ensures writes { Writes (K.state sink.old) (K.state sink.new) result self.now }
     {
         match &self.held {
             Held::Text(text) => write_all(sink, text.bytes()),
@@ -66,11 +62,8 @@ impl Output {
 
     /// Writes all bytes and flushes. It takes no memory.
     pub fn emit<K: Sink>(&self, sink: &mut K) -> Result<(), Failed>
-        ensures whole { OnOk result (Gains (K.state sink.old) (K.state sink.new) self.now) }
+        ensures writes { Writes (K.state sink.old) (K.state sink.new) result self.now }
         ensures flushed { OnOk result (IsTrue (K.state sink.new).is_flushed) }
-        ensures prefix { OnErr result (GainsFront (K.state sink.old) (K.state sink.new) self.now) }
-        ensures count { GoesOn (K.state sink.old).faults (K.state sink.new).faults }
-        ensures cause { OnErr result (Rose (K.state sink.old).faults (K.state sink.new).faults) }
     {
         self.write(sink)?;
         sink.flush()

@@ -9,13 +9,13 @@ ghost use Rattle.st_number.specs.Weighing.{IsLawful};
 ghost use Rattle.st_picture.specs.Naming.{AreNames};
 ghost use Rattle.st_sides.specs.Sides.{edge_count};
 ghost use Rattle.st_test.specs.Planar.{StValue};
-ghost use Rattle.stdraw_core.specs.Answer.{AnswersDraw, vertex_limit, edge_limit};
 ghost use Rattle.stdraw_core.specs.Drawing.{IsAlignedPicture};
 ghost use Rattle.stdraw_core.specs.Paths.{AreSidesIn, HasKnownEdges, paths_in};
-ghost use Rattle.stdraw_core.specs.Stops.{IsStop, StopsAt};
-ghost use Rattle.stdraw_core.specs.Verdict.{IsFound};
+ghost use Rattle.st_verdict.specs.Stops.{IsStop, StopsAt};
+ghost use Rattle.st_verdict.specs.Verdict.{IsFound};
+ghost use Rattle.st_ids.specs.declared.limits.TheConstants.{MOST_VERTICES, MOST_EDGES};
+ghost use Rattle.stdraw_core.specs.Drawing.{AnswersDraw};
 
-use crate::verdict::{name_of_edge, name_of_vertex};
 use draw_align::{PathFault, constrained};
 use st_ids::{EdgeId, Names, PathList};
 use st_input::{GraphSpec, PathNameFault};
@@ -24,6 +24,7 @@ use st_report::{BadPath, Refusal, Stop};
 use st_shape::Picture;
 use st_sides::{Sides, laws};
 use st_test::StGraph;
+use st_verdict::{name_of_edge, name_of_vertex};
 use st_words::DrawForm;
 use std::alloc::Global;
 
@@ -96,8 +97,8 @@ pub fn aligned_picture<F: Fn(EdgeId) -> u32>(
     requires weights { ones.now.edges ≡ edge_count sides.now }
     requires lawful { IsLawful F.pre F.post ones.now }
     requires ones { ones.now.most ≡ 1 }
-    requires high { sides.now.vertices ≤ vertex_limit }
-    requires wide { edge_count sides.now ≤ edge_limit }
+    requires high { sides.now.vertices ≤ MOST_VERTICES }
+    requires wide { edge_count sides.now ≤ MOST_EDGES }
     ensures picture { IfOk result (IsAlignedPicture spec.now sides.now names.now) }
     ensures refused { StopsAt (AnswersDraw DrawForm.Constrained spec.now graph.now) result }
 {

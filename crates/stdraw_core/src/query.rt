@@ -2,10 +2,11 @@
 //! dominance drawing.
 ghost use Rattle.std.specs.Prelude.{◌≡◌, ◌++◌, ◌≤◌, length, IfOk, OnOk};
 ghost use Rattle.st_input.specs.InputGraph.{IsConsistent};
-ghost use Rattle.stdraw_core.specs.Answer.{AnswersPairs, AnswersQuery, vertex_limit, edge_limit};
 ghost use Rattle.stdraw_core.specs.Query.{ArePoints, DecideReaching, answer_word, spelled, line_of_pair};
-ghost use Rattle.stdraw_core.specs.Stops.{Gives};
-ghost use Rattle.stdraw_core.specs.Verdict.{IsFound};
+ghost use Rattle.st_verdict.specs.Stops.{Gives};
+ghost use Rattle.st_verdict.specs.Verdict.{IsFound};
+ghost use Rattle.st_ids.specs.declared.limits.TheConstants.{MOST_VERTICES, MOST_EDGES};
+ghost use Rattle.stdraw_core.specs.Query.{AnswersPairs, AnswersQuery};
 
 use crate::number::append_number;
 use draw_dom::{Dominance, dominance};
@@ -90,8 +91,8 @@ fn lines_of(
 fn dominance_in(alloc: Global, spec: &GraphSpec, graph: StGraph) -> Result<Dominance, NoMemory>
     requires tables { IsConsistent spec.now }
     requires found { IsFound spec.now graph }
-    requires high { spec.now.graph.vertices ≤ vertex_limit }
-    requires wide { length spec.now.graph.ends ≤ edge_limit }
+    requires high { spec.now.graph.vertices ≤ MOST_VERTICES }
+    requires wide { length spec.now.graph.ends ≤ MOST_EDGES }
     ensures points { IfOk result (λ d. ArePoints spec.now graph d.points) }
     ensures reaching { IfOk result (λ d. DecideReaching spec.now.graph d.points) }
     ensures size { IfOk result (λ d. length d.points ≡ spec.now.graph.vertices) }
@@ -113,8 +114,8 @@ pub fn answer_query(
 ) -> Result<Text, Stop>
     requires tables { IsConsistent spec.now }
     requires found { IsFound spec.now graph }
-    requires high { spec.now.graph.vertices ≤ vertex_limit }
-    requires wide { length spec.now.graph.ends ≤ edge_limit }
+    requires high { spec.now.graph.vertices ≤ MOST_VERTICES }
+    requires wide { length spec.now.graph.ends ≤ MOST_EDGES }
     ensures { Gives (AnswersQuery pairs.now spec.now graph) result }
 {
     match dominance_in(alloc, spec, graph) {

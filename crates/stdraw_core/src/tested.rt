@@ -1,7 +1,7 @@
 //! The line of a planar st-graph: its numbers of vertices, edges and faces, and the names of its poles.
 ghost use Rattle.std.specs.Prelude.{◌≡◌, ◌++◌, ◌<◌, length, OnOk};
-ghost use Rattle.stdraw_core.specs.Answer.{AnswersTest, test_line};
-ghost use Rattle.stdraw_core.specs.Stops.{Gives};
+ghost use Rattle.st_verdict.specs.Stops.{Gives};
+ghost use Rattle.stdraw_core.specs.Tested.{AnswersTest, test_line};
 
 use crate::number::append_number;
 use st_ids::{NoMemory, Text};

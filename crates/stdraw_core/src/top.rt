@@ -1,34 +1,35 @@
 //! All that the program does.
-ghost use Rattle.std.specs.Prelude.{◌≡◌, ◌≢◌, ◌≤◌, ◌<◌, ℕ, List, length, map, IfOk, IsErrOf};
+ghost use Rattle.std.specs.Prelude.{◌≡◌, ◌≢◌, ◌≤◌, ℕ, List, length, map, IfOk, IsErrOf};
 ghost use Rattle.std.specs.String.{string_bytes};
 ghost use Rattle.st_port.specs.Faults.{GoesOn};
 ghost use Rattle.st_input.specs.InputGraph.{IsConsistent};
-ghost use Rattle.stdraw_core.specs.Answer.{Answers, AnswersGraph, AnswersFile, byte_limit, vertex_limit, edge_limit};
-ghost use Rattle.stdraw_core.specs.Run.{Decides, EndsBy};
-ghost use Rattle.stdraw_core.specs.Stops.{Gives};
-ghost use Rattle.stdraw_core.specs.Verdict.{IsFound};
-ghost use Rattle.stdraw_core.specs.Complete.{Complete};
-ghost use Rattle.stdraw_core.specs.Headline.{Headline, QueryHeadline};
 ghost use Rattle.st_words.specs.Words.{IsTask, IsFileless};
+ghost use Rattle.st_verdict.specs.Stops.{Gives};
+ghost use Rattle.st_verdict.specs.Verdict.{IsFound};
+ghost use Rattle.stdraw_core.specs.Answer.{Answers, AnswersGraph};
+ghost use Rattle.stdraw_core.specs.Complete.{Complete};
+ghost use Rattle.stdraw_core.specs.Exact.{Exact};
+ghost use Rattle.stdraw_core.specs.Headline.{Headline, QueryHeadline};
+ghost use Rattle.stdraw_core.specs.Run.{Decides, EndsBy, Finds, TakesFew};
 
+use crate::bench::answer_bench;
 use crate::drawing::answer_draw;
-use crate::file::{graph_of, tree_of};
-use crate::generated::{answer_bench, answer_gen};
+use crate::feeding::{feed, graph_from};
+use crate::generated::answer_gen;
 use crate::output::Output;
 use crate::query::answer_query;
 use crate::tested::answer_test;
-use crate::verdict::accept;
+use st_ids::limits::{MOST_EDGES, MOST_VERTICES};
 use st_ids::{NoMemory, Text};
 use st_input::GraphSpec;
-use st_port::{Failed, ReadEnd, Sink, Source, read_all};
+use st_port::{Failed, ReadEnd, Sink, Source};
 use st_report::{Refusal, Status, Stop, report};
 use st_test::StGraph;
 use st_test::laws::one_poles_answer;
+use st_verdict::accept;
 use st_words::laws::one_task;
 use st_words::{Command, Task, task_of};
 use std::alloc::Global;
-
-const MOST_BYTES: usize = 16_777_216;
 
 // The text as an output.
 fn as_output(answer: Result<Text, Stop>) -> Result<Output, Stop>
@@ -49,8 +50,8 @@ fn answer_command(
 ) -> Result<Output, Stop>
     requires tables { IsConsistent spec.now }
     requires found { IsFound spec.now graph }
-    requires high { spec.now.graph.vertices ≤ vertex_limit }
-    requires wide { length spec.now.graph.ends ≤ edge_limit }
+    requires high { spec.now.graph.vertices ≤ MOST_VERTICES }
+    requires wide { length spec.now.graph.ends ≤ MOST_EDGES }
     ensures { Gives (Answers command.now spec.now graph) result }
 {
     match command {
@@ -63,8 +64,8 @@ fn answer_command(
 // What the command answers to a graph.
 fn answer_graph(alloc: Global, command: &Command, spec: &GraphSpec) -> Result<Output, Stop>
     requires tables { IsConsistent spec.now }
-    requires high { spec.now.graph.vertices ≤ vertex_limit }
-    requires wide { length spec.now.graph.ends ≤ edge_limit }
+    requires high { spec.now.graph.vertices ≤ MOST_VERTICES }
+    requires wide { length spec.now.graph.ends ≤ MOST_EDGES }
     ensures { Gives (AnswersGraph command.now spec.now) result }
 {
     let graph = match accept(alloc, spec) {
@@ -74,42 +75,45 @@ fn answer_graph(alloc: Global, command: &Command, spec: &GraphSpec) -> Result<Ou
     answer_command(alloc, command, spec, graph)
 }
 
-// What the command answers to the bytes of a file.
-fn answer_file(alloc: Global, command: &Command, bytes: &[u8]) -> Result<Output, Stop>
-    requires { length bytes.now ≤ byte_limit }
-    ensures { Gives (AnswersFile command.now bytes.now) result }
+// The graph of what the source has left, which is read to its end.
+fn graph_of_source<S: Source>(alloc: Global, src: &mut S) -> Result<GraphSpec, Stop>
+    ensures finds { Finds (S.state src.old) (S.state src.new) result }
+    ensures consistent { IfOk result (λ g. IsConsistent g) }
+    ensures high { IfOk result (λ g. g.graph.vertices ≤ MOST_VERTICES) }
+    ensures wide { IfOk result (λ g. length g.graph.ends ≤ MOST_EDGES) }
+    ensures taken { TakesFew (S.state src.old).left (S.state src.new).left }
+    ensures count { GoesOn (S.state src.old).faults (S.state src.new).faults }
 {
-    let tree = match tree_of(alloc, bytes) {
-        Ok(tree) => tree,
-        Err(stop) => return Err(stop),
+    let reader = match feed(alloc, src) {
+        Ok(reader) => reader,
+        Err(ReadEnd::Failed) => return Err(Stop::ReadFault),
+        Err(ReadEnd::TooLong) => return Err(Stop::Refused(Refusal::TooManyBytes)),
+        Err(ReadEnd::NoMemory) => return Err(Stop::NoMemory),
     };
-    let graph = match graph_of(alloc, &tree) {
+    graph_from(alloc, reader)
+}
+
+// What the command answers to what the source has left. The tree of the file is dropped before the graph is tested.
+fn answer_source<S: Source>(alloc: Global, command: &Command, src: &mut S) -> Result<Output, Stop>
+    ensures decides { (words : List (List ℕ)) → IsTask words (Task.File command.now) → Decides words (S.state src.old) (S.state src.new) result }
+    ensures never_words { IsErrOf result (Stop.Refused Refusal.Words) → ⊥ }
+    ensures taken { TakesFew (S.state src.old).left (S.state src.new).left }
+    ensures count { GoesOn (S.state src.old).faults (S.state src.new).faults }
+{
+    let graph = match graph_of_source(alloc, src) {
         Ok(graph) => graph,
         Err(stop) => return Err(stop),
     };
     answer_graph(alloc, command, &graph)
 }
 
-// What the command answers to what the source has left.
-fn answer_source<S: Source>(alloc: Global, command: &Command, src: &mut S) -> Result<Output, Stop>
-    ensures decides { (words : List (List ℕ)) → IsTask words (Task.File command.now) → Decides words (S.state src.old) (S.state src.new) result }
-    ensures never_words { IsErrOf result (Stop.Refused Refusal.Words) → ⊥ }
-    ensures count { GoesOn (S.state src.old).faults (S.state src.new).faults }
-{
-    let text = match read_all(alloc, src, MOST_BYTES) {
-        Ok(text) => text,
-        Err(ReadEnd::Failed) => return Err(Stop::ReadFault),
-        Err(ReadEnd::TooLong) => return Err(Stop::Refused(Refusal::TooManyBytes)),
-        Err(ReadEnd::NoMemory) => return Err(Stop::NoMemory),
-    };
-    answer_file(alloc, command, text.bytes())
-}
-
 // What is answered to the words and to what the source has left.
 fn decide<S: Source>(alloc: Global, words: &[String], src: &mut S) -> Result<Output, Stop>
     ensures decides { Decides (map string_bytes words.now) (S.state src.old) (S.state src.new) result }
     ensures words { IsErrOf result (Stop.Refused Refusal.Words) → src.new ≡ src.old }
+    ensures unasked { ((task : Task) → IsTask (map string_bytes words.now) task → ⊥) → src.new ≡ src.old }
     ensures generated { (task : Task) → IsTask (map string_bytes words.now) task → IsFileless task → src.new ≡ src.old }
+    ensures taken { TakesFew (S.state src.old).left (S.state src.new).left }
     ensures count { GoesOn (S.state src.old).faults (S.state src.new).faults }
 {
     one_task();
@@ -135,8 +139,10 @@ fn perform<S: Source, K: Sink, D: Sink>(
 ) -> Status
     ensures ending { EndsBy (map string_bytes words.now) (S.state src.old) (S.state src.new) (K.state out.old) (K.state out.new) (D.state diag.old) (D.state diag.new) result }
 
-    // What is left as it was.
+    // What is left as it was, and what was taken.
     ensures words { result ≡ Status.Words → src.new ≡ src.old }
+    ensures unasked { ((task : Task) → IsTask (map string_bytes words.now) task → ⊥) → src.new ≡ src.old }
+    ensures taken { TakesFew (S.state src.old).left (S.state src.new).left }
     ensures generated { (task : Task) → IsTask (map string_bytes words.now) task → IsFileless task → src.new ≡ src.old }
     ensures untouched { result ≢ Status.Done → result ≢ Status.WriteFault → out.new ≡ out.old }
     ensures quiet { result ≡ Status.Done → diag.new ≡ diag.old }
@@ -176,11 +182,16 @@ pub fn run<S: Source, K: Sink, D: Sink>(
     ensures headline { Headline (map string_bytes words.now) (S.state src.old) (S.state src.new) (K.state out.old) (K.state out.new) result }
     ensures query { QueryHeadline (map string_bytes words.now) (S.state src.old) (S.state src.new) (K.state out.old) (K.state out.new) result }
 
+    // Status, line and output are those of the answer.
+    ensures exact { Exact (map string_bytes words.now) (S.state src.old) (K.state out.old) (K.state out.new) (D.state diag.old) (D.state diag.new) result }
+
     // When it must succeed.
     ensures complete { Complete (map string_bytes words.now) (S.state src.old) (S.state src.new) (K.state out.old) (K.state out.new) result }
 
-    // What is left as it was.
+    // What is left as it was, and what was taken.
     ensures words { result ≡ Status.Words → src.new ≡ src.old }
+    ensures unasked { ((task : Task) → IsTask (map string_bytes words.now) task → ⊥) → src.new ≡ src.old }
+    ensures taken { TakesFew (S.state src.old).left (S.state src.new).left }
     ensures generated { (task : Task) → IsTask (map string_bytes words.now) task → IsFileless task → src.new ≡ src.old }
     ensures untouched { result ≢ Status.Done → result ≢ Status.WriteFault → out.new ≡ out.old }
     ensures quiet { result ≡ Status.Done → diag.new ≡ diag.old }

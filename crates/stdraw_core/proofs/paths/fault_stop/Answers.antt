@@ -3,7 +3,7 @@ use Rattle.std.proofs.lemmas.Int.{to_z-of_z}
 use Rattle.draw_align.specs.declared.path_fault.PathFault.{PathFault}
 use Rattle.st_report.specs.declared.stop.BadPath.TheVariants.{SharedEdge, Crossing}
 use Rattle.stdraw_core.specs.Paths.{TellsPath}
-use Rattle.stdraw_core.proofs.PathLemmas.{crossing_there, path_told, shared_there}
+use Rattle.stdraw_core.proofs.PathLemmas.{crossing_there, path_told, shared_there, told_by}
 use Rattle.stdraw_core.proofs.paths.fault_stop.Goals.{in-NotAPath, in-SharedEdge, in-Crossing}
 use Rattle.stdraw_core.proofs.paths.fault_stop.Goals as goal
 
@@ -15,7 +15,7 @@ name_of_vertex-requires c = crossing_there c.args.spec.now c.args.graph.now c.ar
 
 pub returns : goal.returns
 returns c =
-    let told = path_told c.args.spec.now c.args.graph.now c.args.sides.now c.args.paths.now c.requires.paths c.requires.known c.requires.sides c.args.fault c.match-fault.why c.requires.fault in
+    let told = λ (h : TellsPath c.args.spec.now c.args.fault c.match-fault.why). told_by c.args.spec.now c.args.graph.now c.match-fault.why (path_told c.args.spec.now c.args.graph.now c.args.sides.now c.args.paths.now c.requires.paths c.requires.known c.requires.sides c.args.fault c.match-fault.why c.requires.fault h) in
     elim c.match-fault.branch [
       | in-NotAPath w ↦ told (subst (λ (z : PathFault). TellsPath c.args.spec.now z c.match-fault.why) (sym w.in-NotAPath.is) w.why-is)
       | in-SharedEdge w ↦

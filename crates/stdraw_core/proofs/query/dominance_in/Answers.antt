@@ -1,7 +1,8 @@
-use Rattle.std.proofs.Common.{◌≡◌, ◌≤◌, ◌∙◌, sym, subst, arith}
+use Rattle.std.proofs.Common.{◌≡◌, ◌≤◌, ◌∙◌, ℕ, List, sym, subst, arith}
 use Rattle.st_sides.specs.Sides.{edge_count}
 use Rattle.st_picture.specs.Naming.{AreNames}
 use Rattle.draw_dom.specs.Shown.{IsDominanceOf}
+use Rattle.stdraw_core.specs.Query.{DecideReaching}
 use Rattle.stdraw_core.proofs.DrawingLemmas.{if_ok, names_meet, edges_within, names_are}
 use Rattle.stdraw_core.proofs.query.dominance_in.Goals as goal
 
@@ -25,3 +26,14 @@ returns-clause-points c =
       picture = d.picture;
       drawn = subst (λ z. IsDominanceOf c.args.graph.map.graph c.args.graph.source c.args.graph.sink c.args.graph.outer c.in_ok-sides.sides z d.picture d.points) (names_are c.args.spec.now c.names.result.now c.names.ensures.vertex c.names.ensures.edge c.names.ensures.label) h;
     })
+
+pub returns-clause-size : goal.returns-clause-size
+returns-clause-size c =
+    if_ok c.dominance.result c.dominance.ensures.picture (λ d h. h.points_are.size ∙ c.requires.found.vertices)
+
+pub returns-clause-reaching : goal.returns-clause-reaching
+returns-clause-reaching c =
+    if_ok c.dominance.result c.dominance.ensures.reaching
+    (λ d h.
+    subst (λ (es : List (ℕ × ℕ)). DecideReaching (record { vertices = c.args.spec.now.graph.vertices; ends = es }) d.points) c.requires.found.ends
+    (subst (λ (n : ℕ). DecideReaching (record { vertices = n; ends = c.args.graph.map.graph.ends }) d.points) c.requires.found.vertices h))

@@ -4,7 +4,7 @@ use Rattle.std.proofs.lemmas.Option.{get_or_from_slice_get}
 use Rattle.std.proofs.lemmas.Result.{on_ok_weaker}
 use Rattle.st_map.specs.Embedded.{edges, faces}
 use Rattle.st_report.specs.Lines.{numbered}
-use Rattle.stdraw_core.specs.Verdict.{vertex_name}
+use Rattle.st_verdict.specs.Verdict.{vertex_name}
 use Rattle.st_report.proofs.LineLemmas.{six_pieces}
 use Rattle.stdraw_core.proofs.tested.append_line.Goals as goal
 

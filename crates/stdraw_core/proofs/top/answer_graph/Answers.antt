@@ -1,8 +1,7 @@
 use Rattle.std.proofs.Common.{List, ℕ}
-use Rattle.stdraw_core.specs.Verdict.{IsAccepted}
+use Rattle.st_verdict.specs.Verdict.{IsAccepted}
 use Rattle.stdraw_core.specs.Answer.{Answers}
-use Rattle.stdraw_core.proofs.AnswerLemmas.{stop_first, gives_next}
-use Rattle.stdraw_core.proofs.DrawingLemmas.{found}
+use Rattle.st_verdict.proofs.Public.{found, stop_first, gives_next}
 use Rattle.stdraw_core.proofs.top.answer_graph.Goals as goal
 
 pub returns-in-Err : goal.returns-in-Err

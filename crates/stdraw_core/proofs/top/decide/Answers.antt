@@ -1,7 +1,7 @@
 use Rattle.std.proofs.Common.{map}
 use Rattle.std.specs.String.{string_bytes}
 use Rattle.st_words.specs.declared.words.Task.TheVariants.{Gen, Bench}
-use Rattle.stdraw_core.proofs.RunLemmas.{words_refused, fileless_decided}
+use Rattle.stdraw_core.proofs.RunLemmas.{words_refused, fileless_decided, takes_none}
 use Rattle.stdraw_core.proofs.top.decide.Goals as goal
 
 pub returns-in-Ok-None-clause-decides : goal.returns-in-Ok-None-clause-decides
@@ -16,3 +16,15 @@ pub returns-clause-decides : goal.returns-clause-decides
 returns-clause-decides g c =
     let asked = rw c.in-Bench.is at (rw c.in-Ok-Some.field-0-is at c.in-Ok-Some.ensures) in
     fileless_decided (map string_bytes c.args.words.now) _ (Bench c.in-Bench.recipe c.in-Bench.form) c.as_output-in-Bench.result asked tt (λ bytes. rw c.as_output-in-Bench.ensures c.answer_bench.ensures)
+
+pub returns-in-Ok-None-clause-taken : goal.returns-in-Ok-None-clause-taken
+returns-in-Ok-None-clause-taken g c = takes_none _
+
+pub returns-in-Err-clause-taken : goal.returns-in-Err-clause-taken
+returns-in-Err-clause-taken g c = takes_none _
+
+pub returns-in-Gen-clause-taken : goal.returns-in-Gen-clause-taken
+returns-in-Gen-clause-taken g c = takes_none _
+
+pub returns-clause-taken : goal.returns-clause-taken
+returns-clause-taken g c = takes_none _

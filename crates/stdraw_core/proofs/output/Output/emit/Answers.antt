@@ -1,6 +1,5 @@
-use Rattle.st_port.proofs.PieceLemmas.{on_err}
-use Rattle.st_report.proofs.LineLemmas.{GainsFront-whole}
+use Rattle.st_port.proofs.Public.{Writes-kept}
 use Rattle.stdraw_core.proofs.output.Output.emit.Goals as goal
 
-pub returns-clause-prefix : goal.returns-clause-prefix
-returns-clause-prefix g c = on_err _ (GainsFront-whole _ _ _ _ c.in_ok-write.ensures.whole c.flush.ensures.same)
+pub returns-clause-writes : goal.returns-clause-writes
+returns-clause-writes g c = Writes-kept _ _ _ _ _ _ c.in_ok-write.ensures.writes c.flush.ensures.same c.flush.ensures.count c.flush.ensures.cause

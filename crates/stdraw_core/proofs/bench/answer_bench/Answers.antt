@@ -1,7 +1,7 @@
-use Rattle.stdraw_core.proofs.DrawingLemmas.{found}
+use Rattle.st_verdict.proofs.Public.{found}
 use Rattle.stdraw_core.proofs.GeneratedLemmas.{not_accepted, bench_gives}
 use Rattle.stdraw_core.specs.Generated.{IsGenerated}
-use Rattle.stdraw_core.proofs.generated.answer_bench.Goals as goal
+use Rattle.stdraw_core.proofs.bench.answer_bench.Goals as goal
 
 pub returns-in-Err-accept : goal.returns-in-Err-accept
 returns-in-Err-accept c =

@@ -1,5 +1,0 @@
-use Rattle.stdraw_core.proofs.VerdictLemmas.{loop_within}
-use Rattle.stdraw_core.proofs.verdict.digraph_stop.Goals as goal
-
-pub edge_names-requires : goal.edge_names-requires
-edge_names-requires c = loop_within c.args.spec.now.graph _ c.items.result.now c.items.ensures (rw c.in-Cycle.is at c.requires).2

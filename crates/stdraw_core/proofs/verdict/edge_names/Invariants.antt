@@ -1,7 +1,0 @@
-use Rattle.std.proofs.Common.{◌≡◌, map, take}
-use Rattle.st_ids.specs.EdgeNumbers.{numbers}
-use Rattle.stdraw_core.specs.Verdict.{edge_name}
-use Rattle.stdraw_core.proofs.verdict.edge_names.Given as goal
-
-abbrev pub invariant-loop-i : goal.invariant-loop-i
-invariant-loop-i l = l.names ≡ map (edge_name l.spec) (numbers (take l.i l.edges))
