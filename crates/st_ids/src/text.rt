@@ -1,5 +1,5 @@
 //! A list of bytes that holds a short text in itself.
-ghost use Rattle.std.specs.Prelude.{◌≡◌, ◌↔◌, ◌+◌, ◌≤◌, [], ◌++◌, length, IfOk, IsTrue, OnOk, OnErr};
+ghost use Rattle.std.specs.Prelude.{◌≡◌, ◌↔◌, ◌+◌, ◌≤◌, [], ◌++◌, length, take, IfOk, IsTrue, OnOk, OnErr};
 ghost use Rattle.std.specs.Bool.{OnTrue, OnFalse};
 ghost use Rattle.st_ids.specs.Held.{held_bytes};
 
@@ -32,6 +32,20 @@ impl FewBytes {
         FewBytes {
             len: 0,
             bytes: [0; 14],
+        }
+    }
+
+    /// The first n of these bytes, which are copied at once.
+    fn front(bytes: &[u8], n: usize) -> FewBytes
+        requires fits { n ≤ 14 }
+        requires there { 14 ≤ length bytes.now }
+        ensures { result ≡ take n bytes.now }
+    {
+        let mut few = [0; 14];
+        few.copy_from_slice(&bytes[..14]);
+        FewBytes {
+            len: n as u8,
+            bytes: few,
         }
     }
 
@@ -98,6 +112,19 @@ impl Text {
     {
         Text {
             held: Bytes::Short(FewBytes::new()),
+            alloc,
+        }
+    }
+
+    /// The first n bytes of these, as a text that takes no block. Of any n, 14 bytes are copied at once.
+    #[inline(always)]
+    pub fn front(alloc: Global, bytes: &[u8], n: usize) -> Text
+        requires fits { n ≤ 14 }
+        requires there { 14 ≤ length bytes.now }
+        ensures { result ≡ take n bytes.now }
+    {
+        Text {
+            held: Bytes::Short(FewBytes::front(bytes, n)),
             alloc,
         }
     }
