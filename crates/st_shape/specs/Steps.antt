@@ -1,5 +1,6 @@
--- What the single steps of the code ask and answer. No public clause cites this: the definitions of `turn`, `meet` and
--- `clean` stand in Meeting, Clean, Boxes and Verdict.
+-- What the single steps of the code ask and answer. Of the public clauses only two conditions cite this, IsItemOnGrid of
+-- `is_faulty_alone` and IsOrdinary of `is_faulty_pair`: the definitions of `turn`, `meet` and `clean` stand in Meeting,
+-- Clean, Boxes and Verdict.
 --   IsOverlap, IsParted, IsOnRay, MeetBeyond   the parts of the test of two segments
 --   place p, Climbs s                          the number of a point, row after row; that a segment leads to a greater one
 --   IsClimbingLine, IsOrdinary                 what is known of the items where none is faulty by itself

@@ -38,8 +38,10 @@ fn rises_in_dominance(s: Segment) -> bool
     s.a.x + s.a.y < s.b.x + s.b.y
 }
 
-/// Whether each segment of the line rises.
-fn is_rising(form: Form, points: &[Point]) -> bool
+/// Whether each segment of the line rises, as lines have to in a picture of this form.
+///
+/// Range: at least two points; coordinates from 0 to 50,000,000.
+pub fn is_rising(form: Form, points: &[Point]) -> bool
     requires least { 2 ≤ length points.now }
     requires grid { All (λ p. IsOnGrid p) points.now }
     ensures { IsTrue result ↔ IsRisingLine form points.now }
@@ -77,7 +79,10 @@ fn has_vertex(items: &[Item], name: Name) -> bool
     items.iter().any(|item| is_vertex_named(item, name))
 }
 
-/// Whether the item is faulty by itself in a picture of this form.
+/// Whether the item is faulty by itself in a picture of this form with these items.
+///
+/// Range: coordinates from 0 to 50,000,000.
+/// Cost: for a line one pass over the items, else none.
 pub fn is_faulty_alone(form: Form, items: &[Item], item: &Item) -> bool
     requires { IsItemOnGrid item.now }
     ensures { IsTrue result ↔ FaultyAlone form items.now item.now }

@@ -106,7 +106,7 @@ fn area_of_item(item: &Item) -> u64
 }
 
 /// The sum of the boxes' areas.
-fn sum_of_areas(items: &[Item]) -> u128
+pub fn sum_of_areas(items: &[Item]) -> u128
     requires grid { All (λ e. IsBoxOnGrid e) items.now }
     requires few { length items.now < 2 ^ 31 }
     ensures { result ≡ sum_by area_of items.now }
@@ -119,7 +119,7 @@ fn sum_of_areas(items: &[Item]) -> u128
 }
 
 /// The area of the frame.
-fn area_of_frame(frame: Point) -> u64
+pub fn area_of_frame(frame: Point) -> u64
     requires { IsFrame frame }
     ensures { result ≡ frame_area frame }
 {

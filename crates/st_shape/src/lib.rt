@@ -19,8 +19,10 @@ mod tests;
 mod touching;
 mod verdict;
 
+pub use alone::{is_faulty_alone, is_rising};
 pub use item::Item;
 pub use meeting::{meet, turn};
+pub use pairs::is_faulty_pair;
 pub use picture::{Fault, Form, Picture};
 pub use point::{GREATEST, Point, Points, Segment, Turn};
-pub use verdict::clean;
+pub use verdict::{areas_fill, clean};

@@ -150,6 +150,8 @@ fn is_faulty_with_line(ends: Ends, points: &[Point], item: &Item) -> bool
 }
 
 /// Whether two items are a faulty pair.
+///
+/// Range: coordinates from 0 to 50,000,000, and lines that rise, as those that are not faulty by themselves.
 pub fn is_faulty_pair(e: &Item, f: &Item) -> bool
     requires e { IsOrdinary e.now }
     requires f { IsOrdinary f.now }

@@ -1,10 +1,11 @@
 //! What is wrong with a picture.
 
-ghost use Rattle.std.specs.Prelude.{◌≡◌, MatchOption, None, Some};
+ghost use Rattle.std.specs.Prelude.{◌≡◌, ◌↔◌, IsTrue, MatchOption, None, Some, sum_by};
 ghost use Rattle.st_shape.specs.declared.picture.Fault.{Fault};
+ghost use Rattle.st_shape.specs.Boxes.{area_of, frame_area};
 ghost use Rattle.st_shape.specs.Verdict.{IsRight, IsWrong};
 
-use crate::boxes::box_fault;
+use crate::boxes::{area_of_frame, box_fault, sum_of_areas};
 use crate::picture::{Fault, Form, Picture};
 use crate::search::first_fault;
 
@@ -30,4 +31,16 @@ pub fn clean(picture: &Picture) -> Option<Fault>
         Form::Polyline => first_fault(form, items),
         Form::Dominance => first_fault(form, items),
     }
+}
+
+/// Whether the areas of the boxes sum to the area of the frame.
+///
+/// Cost: O(n) time for n items; no memory.
+pub fn areas_fill(picture: &Picture) -> bool
+    ensures { IsTrue result ↔ (sum_by area_of picture.now.items ≡ frame_area picture.now.frame) }
+{
+    let items = picture.items();
+    let sum = sum_of_areas(items);
+    let frame = u128::from(area_of_frame(picture.frame()));
+    sum == frame
 }
