@@ -2,7 +2,7 @@
 ghost use Rattle.std.specs.Prelude.{◌≡◌, ◌+◌, ◌<◌, ◌≤◌, ◌^◌, ℕ, pos, length, map, slice_index, IfOk};
 ghost use Rattle.st_ids.specs.EdgeNumbers.{numbers};
 ghost use Rattle.st_ids.specs.Graph.{HasEnds};
-ghost use Rattle.st_map.specs.Embedded.{bare, edges};
+ghost use Rattle.st_map.specs.Embedded.{edges};
 ghost use Rattle.st_number.specs.Heights.{AreHeights, AreSums, AreTaken};
 ghost use Rattle.st_number.specs.Passing.{IsEdgeOrder, IsPassTable};
 ghost use Rattle.st_number.specs.Weighing.{IsLawful};
@@ -83,22 +83,6 @@ pub fn signed<K: Id>(alloc: Global, sums: &IdVec<K, u64>) -> Result<IdVec<K, i64
     Ok(list)
 }
 
-/// The vertices and edges of a map.
-fn digraph_of(alloc: Global, map: &Map) -> Result<Digraph, NoMemory>
-    ensures value { IfOk result (λ d. d ≡ bare map.now.graph) }
-    ensures few_vertices { IfOk result (λ d. d.vertices < 2 ^ 30) }
-    ensures few_edges { IfOk result (λ d. length d.ends < 2 ^ 30) }
-{
-    let mut graph = Digraph::new(alloc);
-    graph.add_vertices(map.vertices());
-    graph.reserve(map.edges())?;
-    for e in 0..map.edges() {
-        let (tail, head) = (map.tail(EdgeId(e)), map.head(EdgeId(e)));
-        graph.add_edge(tail, head)?;
-    }
-    Ok(graph)
-}
-
 /// The greatest weight of a walk from the source to each vertex.
 fn sum_up(
     alloc: Global,
@@ -111,7 +95,7 @@ fn sum_up(
     requires small { most ≤ 1000 }
     ensures { IfOk result (AreSums graph.now.map.graph graph.now.source (slice_index taken.now) most) }
 {
-    let copy = digraph_of(alloc, graph.map())?;
+    let copy = graph.map().digraph(alloc)?;
     let order = topological_order(alloc, &copy)?;
     let sums = pass(alloc, &copy, taken, most, order.edges())?;
     Ok(sums)

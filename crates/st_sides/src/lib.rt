@@ -3,7 +3,6 @@
 #![tactic(auto)]
 
 mod beside;
-mod copying;
 pub mod laws;
 mod nodes;
 mod order;

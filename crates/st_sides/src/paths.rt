@@ -8,7 +8,7 @@ ghost use Rattle.st_sides.specs.NodeSides.{AreNodeLists, NodeBegins, NodeSides};
 
 use crate::parts::parts;
 use crate::stars::two_lists;
-use crate::starts::{list_starts, vertex_of};
+use crate::starts::list_starts;
 use st_ids::{Dart, EdgeId, FaceId, IdVec, NoMemory, PathList};
 use st_test::StGraph;
 use std::alloc::Global;
@@ -73,7 +73,7 @@ fn node_sides(
     let stop = parts(map, true, start, right, left)?;
     clear_if(left, f == 0);
     clear_if(right, f == count_faces(graph));
-    Ok((vertex_of(map, start).0, vertex_of(map, stop).0))
+    Ok((map.vertex_of(start).0, map.vertex_of(stop).0))
 }
 
 /// The lowest and highest vertices and the paths of all nodes.

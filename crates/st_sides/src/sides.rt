@@ -7,7 +7,6 @@ ghost use Rattle.st_sides.specs.SidesOf.{IsSidesOf};
 ghost use Rattle.st_sides.specs.Sides.{edge_count, edge_tail, edge_head, face_left, face_right, outs, ins, low, high, left_path, right_path, left_of, right_of};
 
 use crate::beside::vertex_nodes;
-use crate::copying::digraph_of;
 use crate::laws;
 use crate::nodes::edge_nodes;
 use crate::paths::{count_faces, node_lists};
@@ -99,7 +98,7 @@ impl Sides {
         let nodes = node_lists(alloc, graph)?;
         let vertex_lefts = vertex_nodes(alloc, graph, &outs, &edge_lefts, false, 0)?;
         let vertex_rights = vertex_nodes(alloc, graph, &outs, &edge_rights, true, last)?;
-        let copy = digraph_of(alloc, map)?;
+        let copy = map.digraph(alloc)?;
         Ok(Sides {
             graph: copy,
             source: graph.source(),

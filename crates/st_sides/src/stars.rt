@@ -7,7 +7,7 @@ ghost use Rattle.st_sides.specs.Conditions.{AreOuts, AreIns};
 ghost use Rattle.st_sides.specs.Filled.{AreStarts, Begins, IsFilled};
 
 use crate::parts::parts;
-use crate::starts::{list_starts, vertex_of};
+use crate::starts::list_starts;
 use st_ids::{Dart, EdgeId, NoMemory, OrbitId, PathList, VertexId};
 use st_test::StGraph;
 use std::alloc::Global;
@@ -17,7 +17,7 @@ fn is_on(graph: &StGraph, face: OrbitId, d: Dart, v: VertexId) -> bool
     requires { d.0 < darts graph.now.map.graph }
     ensures { IsTrue result ↔ ((orbit_number graph.now.map.graph d.0 ≡ face.0) × (at graph.now.map.graph d.0 ≡ v.0)) }
 {
-    let there = vertex_of(graph.map(), d);
+    let there = graph.map().vertex_of(d);
     graph.faces().orbit(d).0 == face.0 && there.0 == v.0
 }
 

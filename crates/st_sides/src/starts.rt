@@ -1,29 +1,14 @@
 //! Where the runs of ends out begin, round each vertex and along each face.
 ghost use Rattle.std.specs.Prelude.{◌≡◌, ◌<◌, ◌↔◌, true, false, length, replicate, IfOk, IsTrue};
 ghost use Rattle.st_ids.specs.Ends.{is_out};
-ghost use Rattle.st_map.specs.Embedded.{at, darts, face};
+ghost use Rattle.st_map.specs.Embedded.{darts, face};
 ghost use Rattle.st_test.specs.FaceNumbers.{orbit_number};
 ghost use Rattle.st_sides.specs.Filled.{AreStarts, key, keys};
 
 use crate::runs::step;
-use st_ids::{Dart, NoMemory, VertexId};
-use st_map::Map;
+use st_ids::{Dart, NoMemory};
 use st_test::StGraph;
 use std::alloc::Global;
-
-/// The vertex of an end.
-#[tactic(auto, unfolding(st_map::specs::Embedded::at))]
-pub(crate) fn vertex_of(map: &Map, d: Dart) -> VertexId
-    requires { d.0 < darts map.now.graph }
-    ensures value { result.0 ≡ at map.now.graph d.0 }
-    ensures within { result.0 < map.now.graph.vertices }
-{
-    if d.is_out() {
-        map.tail(d.edge())
-    } else {
-        map.head(d.edge())
-    }
-}
 
 /// The number of the end's face, or its vertex.
 fn key_of(graph: &StGraph, face: bool, d: Dart) -> u32
@@ -35,7 +20,7 @@ fn key_of(graph: &StGraph, face: bool, d: Dart) -> u32
     if face {
         graph.faces().orbit(d).0
     } else {
-        vertex_of(map, d).0
+        map.vertex_of(d).0
     }
 }
 

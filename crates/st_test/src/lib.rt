@@ -26,7 +26,7 @@ pub use graph::StGraph;
 pub use orbits::Faces;
 pub use topological::{TopologicalOrder, order_arcs, topological_order};
 pub use tracing::faces;
-pub use verdict::{EmbedFault, test};
+pub use verdict::{EmbedFault, outer_end, test, touches};
 
 #[cfg(test)]
 mod tests {

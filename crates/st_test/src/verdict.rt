@@ -49,30 +49,17 @@ impl From<NoMemory> for EmbedFault {
     }
 }
 
-/// The vertex of an end.
-#[tactic(auto, unfolding(st_map::specs::Embedded::at))]
-fn vertex_of(map: &Map, d: Dart) -> VertexId
-    requires { d.0 < darts map.now.graph }
-    ensures { result.0 ≡ at map.now.graph d.0 }
-{
-    if d.is_out() {
-        map.tail(d.edge())
-    } else {
-        map.head(d.edge())
-    }
-}
-
 /// Whether the end is in the face and at v.
 fn is_on(map: &Map, faces: &Faces, face: OrbitId, d: Dart, v: VertexId) -> bool
     requires faces { AreFaces map.now.graph faces.now }
     requires there { d.0 < darts map.now.graph }
     ensures { IsTrue result ↔ ((orbit_number map.now.graph d.0 ≡ face.0) × (at map.now.graph d.0 ≡ v.0)) }
 {
-    faces.orbit(d).0 == face.0 && vertex_of(map, d).0 == v.0
+    faces.orbit(d).0 == face.0 && map.vertex_of(d).0 == v.0
 }
 
 /// Whether the face of an end has an end at v.
-fn touches(map: &Map, faces: &Faces, outer: Dart, v: VertexId) -> bool
+pub fn touches(map: &Map, faces: &Faces, outer: Dart, v: VertexId) -> bool
     requires faces { AreFaces map.now.graph faces.now }
     requires there { outer.0 < darts map.now.graph }
     ensures { IsTrue result ↔ Touches map.now.graph outer.0 v.0 }
@@ -87,7 +74,7 @@ fn touches(map: &Map, faces: &Faces, outer: Dart, v: VertexId) -> bool
 }
 
 /// The end that names the outer face.
-fn outer_end(map: &Map, source: VertexId, outer: Option<Dart>) -> Dart
+pub fn outer_end(map: &Map, source: VertexId, outer: Option<Dart>) -> Dart
     requires there { IfSome outer (λ d. d.0 < darts map.now.graph) }
     requires source { source.0 < map.now.graph.vertices }
     requires edge { (e : ℕ) × IsEdgeAt map.now.graph.ends source.0 e }

@@ -16,7 +16,7 @@ invariant_of-result c =
     let o : ℕ = c.args.graph.now.outer in
     let n : c.count_faces-last.result ≡ faces g = c.count_faces-last.ensures.value in
     let few : faces g < 2 ^ 31 = subst (λ z. z < 2 ^ 31) n c.count_faces-last.ensures.few in
-    let copy : c.in_ok-copy.copy ≡ bare g = c.in_ok-copy.ensures ∙ ap (λ z. bare z.graph) c.map-map.ensures.value in
+    let copy : c.in_ok-copy.copy ≡ bare g = c.in_ok-copy.ensures.value ∙ ap (λ z. bare z.graph) c.map-map.ensures.value in
     let ri : IsFilled 0 (λ e z. z ≡ node_number (orbit_number g o) (faces g) (orbit_number g (2 * e + 1))) (edges g) c.in_ok-edge_rights.edge_rights =
     subst (λ h. IsFilled 0 (λ e z. z ≡ node_number (orbit_number g o) h (orbit_number g (2 * e + 1))) (edges g) c.in_ok-edge_rights.edge_rights) n c.in_ok-edge_rights.ensures in
     let vr : IsFilled 0 (λ v z. IsBeside s t c.in_ok-edge_rights.edge_rights true (faces g) (get_or c.in_ok-outs.outs v []) v z) g.vertices c.in_ok-vertex_rights.vertex_rights =
@@ -37,7 +37,7 @@ returns c =
     let o : ℕ = c.args.graph.now.outer in
     let n : c.count_faces-last.result ≡ faces g = c.count_faces-last.ensures.value in
     let few : faces g < 2 ^ 31 = subst (λ z. z < 2 ^ 31) n c.count_faces-last.ensures.few in
-    let copy : c.in_ok-copy.copy ≡ bare g = c.in_ok-copy.ensures ∙ ap (λ z. bare z.graph) c.map-map.ensures.value in
+    let copy : c.in_ok-copy.copy ≡ bare g = c.in_ok-copy.ensures.value ∙ ap (λ z. bare z.graph) c.map-map.ensures.value in
     let ri : IsFilled 0 (λ e z. z ≡ node_number (orbit_number g o) (faces g) (orbit_number g (2 * e + 1))) (edges g) c.in_ok-edge_rights.edge_rights =
     subst (λ h. IsFilled 0 (λ e z. z ≡ node_number (orbit_number g o) h (orbit_number g (2 * e + 1))) (edges g) c.in_ok-edge_rights.edge_rights) n c.in_ok-edge_rights.ensures in
     let vr : IsFilled 0 (λ v z. IsBeside s t c.in_ok-edge_rights.edge_rights true (faces g) (get_or c.in_ok-outs.outs v []) v z) g.vertices c.in_ok-vertex_rights.vertex_rights =
