@@ -49,7 +49,7 @@ token_row at b bs f e = rows (b == 91) (b == 93) (b == 34) (is_ascii_alphabetic 
     rows false false false false true = refl
     rows false false false false false = refl
 
-letter : (o c q l n : Bool) → picked o c q l n ≡ Letter → l ≡ true
+pub letter : (o c q l n : Bool) → picked o c q l n ≡ Letter → l ≡ true
 letter true c q l n e = absurd cc
 letter false true q l n e = absurd cc
 letter false false true l n e = absurd cc

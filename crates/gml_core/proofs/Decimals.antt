@@ -26,10 +26,10 @@ digits_from : (ds : List ℕ) → AllDigits 10 ds → AreDigits ds
 digits_from [] h = tt
 digits_from (c ∷ cs) h = let range = digit_from_value c h.0 in (omega (arith, range), omega (arith, range), digits_from cs h.1)
 
-is_digit : (c : ℕ) → 48 ≤ c → c ≤ 57 → is_ascii_digit c ≡ true
+pub is_digit : (c : ℕ) → 48 ≤ c → c ≤ 57 → is_ascii_digit c ≡ true
 is_digit c low high = and_from _ _ (le-leb 48 c low) (le-leb c 57 high)
 
-is_run : (c : ℕ) → 48 ≤ c → c ≤ 57 → is_numeric c ≡ true
+pub is_run : (c : ℕ) → 48 ≤ c → c ≤ 57 → is_numeric c ≡ true
 is_run c low high = or_left _ _ (or_left _ _ (or_left _ _ (or_left _ _ (is_digit c low high))))
 
 all_digits : (ds : List ℕ) → AreDigits ds → prefix_len is_ascii_digit ds ≡ length ds
@@ -43,10 +43,10 @@ all_run (c ∷ cs) h = rw (is_run c h.0 h.1) (omega (arith, all_run cs h.2))
 not_sign : (c : ℕ) → 48 ≤ c → is_sign c ≡ false
 not_sign c low = or_from _ _ (ne_eqb c 43 (λ e. omega arith)) (ne_eqb c 45 (λ e. omega arith))
 
-not_space : (c : ℕ) → 48 ≤ c → is_space c ≡ false
+pub not_space : (c : ℕ) → 48 ≤ c → is_space c ≡ false
 not_space c low = or_from _ _ (ne_eqb c 32 (λ e. omega arith)) (and_right _ _ (lt-leb c 13 (omega arith)))
 
-not_letter : (c : ℕ) → c ≤ 57 → is_ascii_alphabetic c ≡ false
+pub not_letter : (c : ℕ) → c ≤ 57 → is_ascii_alphabetic c ≡ false
 not_letter c high = or_from _ _ (and_left _ _ (lt-leb 65 c (omega arith))) (and_left _ _ (lt-leb 97 c (omega arith)))
 
 -- ---- the token
@@ -58,7 +58,7 @@ unsigned_is (c ∷ cs) h = rw (not_sign c h.0) refl
 behind : (ds : List ℕ) → 0 < length ds → AreDigits ds → behind_digits (digits ds) (drop (digits ds) ds) ≡ Some kinds.Int
 behind ds positive h = rw (all_digits ds h, drop_all (length ds) ds (omega arith), lt-ltb 0 (length ds) positive) refl
 
-kind_plain : (ds : List ℕ) → 0 < length ds → AreDigits ds → number_kind ds ≡ Some kinds.Int
+pub kind_plain : (ds : List ℕ) → 0 < length ds → AreDigits ds → number_kind ds ≡ Some kinds.Int
 unfolding number_kind
 kind_plain ds positive h = rw (unsigned_is ds h) (behind ds positive h)
 
@@ -66,7 +66,7 @@ kind_minus : (ds : List ℕ) → 0 < length ds → AreDigits ds → number_kind 
 unfolding number_kind
 kind_minus ds positive h = behind ds positive h
 
-fifth : {A : Type 0} (a b c d e : Bool) (u v w x y z : A) → a ≡ false → b ≡ false → c ≡ false → d ≡ false → e ≡ true → cond a u (cond b v (cond c w (cond d x (cond e y z)))) ≡ y
+pub fifth : {A : Type 0} (a b c d e : Bool) (u v w x y z : A) → a ≡ false → b ≡ false → c ≡ false → d ≡ false → e ≡ true → cond a u (cond b v (cond c w (cond d x (cond e y z)))) ≡ y
 fifth a b c d e u v w x y z p q r s t = rw (p, q, r, s, t) refl
 
 -- a run of digits is read whole
@@ -105,7 +105,7 @@ pub decimal_spelled : (z : ℤ) → fits (int z) ≡ true → IsSpelled kinds.In
 decimal_spelled (pos n) fit = let d = decimal_is_IsNumeral n (small n fit) in plain (decimal n) d.0.0 (digits_from (decimal n) d.0.1)
 decimal_spelled (negsuc n) fit = let d = decimal_is_IsNumeral (suc n) (small_minus n fit) in minus (decimal (suc n)) d.0.0 (digits_from (decimal (suc n)) d.0.1)
 
-plain_integer : (ds : List ℕ) → 0 < length ds → AreDigits ds → integer ds ≡ pos (number ds)
+pub plain_integer : (ds : List ℕ) → 0 < length ds → AreDigits ds → integer ds ≡ pos (number ds)
 plain_integer [] positive h = absurd (omega arith)
 plain_integer (c ∷ cs) positive h =
     let no45 : (c == 45) ≡ false = ne_eqb c 45 (λ e. omega arith) in

@@ -23,3 +23,4 @@ pub mod TokensRead
 pub mod TreeRead
 pub mod Wholes
 pub mod Looked
+pub mod Pairs

@@ -1,5 +1,5 @@
 -- Gaps and tokens that lie within the rest of a piece.
-use Rattle.std.proofs.Common.{◌≡◌, ℕ, ◌+◌, ◌<◌, ◌≤◌, Bool, true, false, cond, List, [], ◌∷◌, ◌++◌, length, drop, take, Option, Some, None, Ok, refl, sym, ap, ◌∙◌, arith, add-zero, get_or}
+use Rattle.std.proofs.Common.{◌≡◌, ℕ, ◌+◌, ◌<◌, ◌≤◌, Bool, true, false, cond, List, [], ◌∷◌, ◌++◌, length, drop, take, Some, None, Ok, refl, sym, ap, ◌∙◌, arith, add-zero, get_or}
 use Rattle.std.specs.Prelude.{◌==◌}
 use Rattle.std.specs.List.{prefix_len}
 use Rattle.std.proofs.lemmas.Bool.{eqb-true}
@@ -10,7 +10,6 @@ use Rattle.gml_core.specs.declared.pieces.First.TheVariants.{Open, Close, Letter
 use Rattle.gml_core.specs.declared.pieces.State.TheVariants.{Between}
 use Rattle.gml_core.specs.declared.pieces.Seen.TheVariants.{Whole}
 use Rattle.gml_core.specs.Bytes.{is_space, is_word, is_numeric, number_kind}
-use Rattle.gml_core.specs.Lexing.{token_at, found}
 use Rattle.gml_core.specs.Pieces.{after_gap, gap_step, first_of, coming, Closes}
 use Rattle.gml_core.proofs.Looks.{gap_ends, skip_more, key_closes, number_closes}
 use Rattle.gml_core.proofs.Begins.{Begins, begin_key, begin_number, begin_open, begin_close}
@@ -33,7 +32,7 @@ no_gap b f plain e other = tests (is_space b) (b == 35) plain (λ q. other (sym 
     tests false true plain h = absurd (h refl)
     tests false false plain h = refl
 
-begins : (at : ℕ) (rest : List ℕ) (f : First) → 0 < length rest → is_space (get_or rest 0 0) ≡ false → first_of (get_or rest 0 0) ≡ f → (f ≡ Other → ⊥) → Begins Between at rest
+pub begins : (at : ℕ) (rest : List ℕ) (f : First) → 0 < length rest → is_space (get_or rest 0 0) ≡ false → first_of (get_or rest 0 0) ≡ f → (f ≡ Other → ⊥) → Begins Between at rest
 unfolding coming
 begins at [] f some plain e other = absurd (omega arith)
 begins at (b ∷ bs) f some plain e other = λ c. gap_ends false b at (bs ++ c) (no_gap b f plain e other)

@@ -3,9 +3,11 @@
 --   StandsFor r b                   the reader of tokens stands for these bytes
 --   IsRead bytes builder at         the bytes up to a place are read by this builder
 --   TreeStandsFor r b               the reader of a tree stands for these bytes
-use Rattle.std.specs.Prelude.{◌≡◌, ℕ, ◌+◌, List, [], ◌++◌, length, map, Option, Some, None}
+--   ReadsOn old new at rest n       n bytes of a rest are read by a builder
+use Rattle.std.specs.Prelude.{◌≡◌, ℕ, ◌+◌, List, [], ◌++◌, length, drop, map, Option, Some, None}
 use Rattle.gml_core.specs.declared.token.Token.{Token}
 use Rattle.gml_core.specs.declared.pieces.State.{State}
+use Rattle.gml_core.specs.declared.pieces.State.TheVariants.{Between}
 use Rattle.gml_core.specs.declared.fault.GmlFault.{GmlFault}
 use Rattle.gml_core.specs.declared.parsing.Builder.{Builder}
 use Rattle.gml_core.specs.declared.readers.TokenReader.{TokenReader}
@@ -55,3 +57,7 @@ pub record TreeReads (r : TreeReader) (b rest : List ℕ) : Type 0 where
 -- the reader stands for these bytes
 abbrev pub TreeStandsFor : TreeReader → List ℕ → Type 0
 TreeStandsFor r b = TreeReads r b []
+
+-- where the rest lies at this place, reading with the old builder goes on n bytes further with the new one
+abbrev pub ReadsOn : Builder → Builder → ℕ → List ℕ → ℕ → Type 0
+ReadsOn old new at rest n = (b : List ℕ) → Resumes (BuiltUp old) b rest Between at → Resumes (BuiltUp new) b (drop n rest) Between (at + n)

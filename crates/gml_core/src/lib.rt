@@ -12,6 +12,7 @@ mod number;
 mod parsing;
 mod pieces;
 mod printing;
+mod quick;
 mod readers;
 mod text;
 mod token;

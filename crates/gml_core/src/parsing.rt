@@ -37,16 +37,16 @@ pub struct Frame {
 /// A key whose value comes next.
 #[derive(Drop)]
 pub struct Waiting {
-    key: Text,
-    at: u32,
+    pub(crate) key: Text,
+    pub(crate) at: u32,
 }
 
 /// What was read so far: the pairs of all open lists, those of the outer ones first.
 #[derive(Drop)]
 pub struct Builder {
-    stack: Vec<Frame>,
+    pub(crate) stack: Vec<Frame>,
     pairs: Vec<Pair>,
-    waits: Option<Waiting>,
+    pub(crate) waits: Option<Waiting>,
     ghost nested: { IsTrue (nested (reverse stack.items) (length pairs.items)) },
 }
 
@@ -66,7 +66,8 @@ impl Builder {
     }
 
     /// Ends the innermost list.
-    fn close(&mut self, alloc: Global, at: u32) -> Result<(), GmlFault>
+    #[inline(always)]
+    pub(crate) fn close(&mut self, alloc: Global, at: u32) -> Result<(), GmlFault>
         requires { self.old.waits ≡ None }
         ensures ok { OnOk result (Takes at closes self.old self.new) }
         ensures err { IfErr result (λ e. e ≢ GmlFault.NoMemory → step_at (state_of self.old) at closes ≡ Err e) }
@@ -116,7 +117,8 @@ impl Builder {
     }
 
     /// Begins the list that is a key's value.
-    fn begin(&mut self, waiting: Waiting, at: u32) -> Result<(), GmlFault>
+    #[inline(always)]
+    pub(crate) fn begin(&mut self, waiting: Waiting, at: u32) -> Result<(), GmlFault>
         requires { self.old.waits ≡ None }
         ensures ok { OnOk result (Takes at opens (record self.old { waits = Some waiting }) self.new) }
         ensures err { IfErr result (λ e. e ≢ GmlFault.NoMemory → step_at (state_of (record self.old { waits = Some waiting })) at opens ≡ Err e) }
@@ -136,7 +138,8 @@ impl Builder {
     }
 
     /// Ends a pair with a value that is no list.
-    fn put(&mut self, waiting: Waiting, at: u32, value: Value) -> Result<(), GmlFault>
+    #[inline(always)]
+    pub(crate) fn put(&mut self, waiting: Waiting, at: u32, value: Value) -> Result<(), GmlFault>
         requires { self.old.waits ≡ None }
         ensures ok { (w : Word) → IsAtom w value → OnOk result (Takes at w (record self.old { waits = Some waiting }) self.new) }
         ensures err { IfErr result (λ e. e ≡ GmlFault.NoMemory) }

@@ -2,7 +2,7 @@
 //!
 //! A reader stands for the bytes that it was fed. It keeps no more of them than a token that the last piece cuts.
 
-ghost use Rattle.std.specs.Prelude.{◌≡◌, ◌≢◌, ◌<◌, ◌≤◌, ◌+◌, ◌*◌, ◌^◌, ◌++◌, [], List, ℕ, length, drop, IfOk, IfErr, OnOk, MatchResult, ◌⊎◌};
+ghost use Rattle.std.specs.Prelude.{◌≡◌, ◌≢◌, ◌<◌, ◌≤◌, ◌+◌, ◌*◌, ◌^◌, ◌++◌, [], List, ℕ, None, length, drop, IfOk, IfErr, OnOk, MatchResult, ◌⊎◌};
 ghost use Rattle.gml_core.specs.declared.token.Token.{Token};
 ghost use Rattle.gml_core.specs.declared.fault.GmlFault.{GmlFault};
 ghost use Rattle.gml_core.specs.Lexing.{AreTokens, IsFaultyToken, IsTokenFault};
@@ -252,8 +252,8 @@ impl TreeReader {
     }
 
     /// Takes white space, or a token that ends within the rest, or else what one look takes.
-    #[inline(always)]
-    fn take(&mut self, rest: &[u8]) -> Result<usize, NoMemory>
+    #[inline(never)]
+    fn take_one(&mut self, rest: &[u8]) -> Result<usize, NoMemory>
         requires placed { IsPlaced self.old.state self.old.fed }
         requires some { 0 < length rest.now }
         requires fits { self.old.fed + length rest.now < 2 ^ 32 }
@@ -296,6 +296,58 @@ impl TreeReader {
                 }
             }
         }
+    }
+
+    /// Takes a string or a real that ends within the rest, or else what `take_one` takes.
+    #[inline(never)]
+    fn take_value(&mut self, rest: &[u8]) -> Result<usize, NoMemory>
+        requires between { self.old.state ≡ State.Between }
+        requires goes { self.old.fault ≡ None }
+        requires some { 0 < length rest.now }
+        requires fits { self.old.fed + length rest.now < 2 ^ 32 }
+        ensures within { IfOk result (λ n. n ≤ length rest.now) }
+        ensures fed { IfOk result (λ n. self.new.fed ≡ self.old.fed + n) }
+        ensures less { IfOk result (λ n. rank self.new.state < 2 * n + rank self.old.state) }
+        ensures placed { OnOk result (IsPlaced self.new.state self.new.fed) }
+        ensures reads { IfOk result (λ n. (b : List ℕ) → TreeReads self.old b rest.now → TreeReads self.new b (drop n rest.now)) }
+    {
+        let n = self.builder.atom_quickly(self.alloc, self.fed, rest)?;
+        if n == 0 {
+            return self.take_one(rest);
+        }
+        self.fed += n as u32;
+        Ok(n)
+    }
+
+    /// Takes a pair at once where it can, or else what `take_one` takes.
+    #[inline(always)]
+    fn take(&mut self, rest: &[u8]) -> Result<usize, NoMemory>
+        requires placed { IsPlaced self.old.state self.old.fed }
+        requires some { 0 < length rest.now }
+        requires fits { self.old.fed + length rest.now < 2 ^ 32 }
+        ensures within { IfOk result (λ n. n ≤ length rest.now) }
+        ensures fed { IfOk result (λ n. self.new.fed ≡ self.old.fed + n) }
+        ensures less { IfOk result (λ n. rank self.new.state < 2 * n + rank self.old.state) }
+        ensures placed { OnOk result (IsPlaced self.new.state self.new.fed) }
+        ensures reads { IfOk result (λ n. (b : List ℕ) → TreeReads self.old b rest.now → TreeReads self.new b (drop n rest.now)) }
+    {
+        match self.state {
+            State::Between => {}
+            _ => return self.look_on(rest),
+        }
+        match &self.fault {
+            None => {}
+            Some(_) => return self.look_on(rest),
+        }
+        if !self.builder.is_at_pair() {
+            return self.take_value(rest);
+        }
+        let n = self.builder.take_quickly(self.alloc, self.fed, rest)?;
+        if n == 0 {
+            return self.take_one(rest);
+        }
+        self.fed += n as u32;
+        Ok(n)
     }
 
     /// Takes a piece, and gives the reader up where memory runs out.

@@ -1,5 +1,5 @@
 -- A pair has a key exactly where the table says so.
-use Rattle.std.proofs.Common.{◌≡◌, ◌⊎◌, inl, inr, ℕ, Bool, true, false, List, [], ◌∷◌, Option, None, Some, slice_index_or, refl, sym, ◌∙◌, ap, subst, bytes_eq, codes}
+use Rattle.std.proofs.Common.{◌≡◌, ◌≤◌, ◌<◌, inl, inr, ℕ, length, get_or, arith, true, List, [], ◌∷◌, Option, None, Some, slice_index_or, refl, sym, ◌∙◌, ap, bytes_eq}
 use Rattle.std.specs.Bool.{Decides}
 use Rattle.std.proofs.lemmas.Bool.{cases_Bool, eqb-true}
 use Rattle.std.proofs.lemmas.Bool.Decides.{same_from_decides}
@@ -94,3 +94,21 @@ is_known e = record {
   outer = has_word Outer (key_of e);
   side = has_word Side (key_of e);
 }
+
+-- six bytes, each of which is known
+six_are : (bs : List ℕ) (a b c d e f : ℕ) → 6 ≤ length bs → length bs < 7 → get_or bs 0 0 ≡ a → get_or bs 1 0 ≡ b → get_or bs 2 0 ≡ c → get_or bs 3 0 ≡ d → get_or bs 4 0 ≡ e → get_or bs 5 0 ≡ f
+    → bs ≡ a ∷ b ∷ c ∷ d ∷ e ∷ f ∷ []
+six_are [] a b c d e f least most p q r s t u = absurd (omega arith)
+six_are (z ∷ []) a b c d e f least most p q r s t u = absurd (omega arith)
+six_are (z ∷ y ∷ []) a b c d e f least most p q r s t u = absurd (omega arith)
+six_are (z ∷ y ∷ x ∷ []) a b c d e f least most p q r s t u = absurd (omega arith)
+six_are (z ∷ y ∷ x ∷ w ∷ []) a b c d e f least most p q r s t u = absurd (omega arith)
+six_are (z ∷ y ∷ x ∷ w ∷ v ∷ []) a b c d e f least most p q r s t u = absurd (omega arith)
+six_are (z ∷ y ∷ x ∷ w ∷ v ∷ k ∷ []) a b c d e f least most p q r s t u = rw (p, q, r, s, t, u) refl
+six_are (z ∷ y ∷ x ∷ w ∷ v ∷ k ∷ j ∷ is) a b c d e f least most p q r s t u = absurd (omega arith)
+
+pub is_source : (bs : List ℕ) → 6 ≤ length bs → length bs < 7 → get_or bs 0 0 ≡ 115 → get_or bs 1 0 ≡ 111 → get_or bs 2 0 ≡ 117 → get_or bs 3 0 ≡ 114 → get_or bs 4 0 ≡ 99 → get_or bs 5 0 ≡ 101 → Some Source ≡ known bs
+is_source bs least most p q r s t u = sym (ap known (six_are bs 115 111 117 114 99 101 least most p q r s t u))
+
+pub is_target : (bs : List ℕ) → 6 ≤ length bs → length bs < 7 → get_or bs 0 0 ≡ 116 → get_or bs 1 0 ≡ 97 → get_or bs 2 0 ≡ 114 → get_or bs 3 0 ≡ 103 → get_or bs 4 0 ≡ 101 → get_or bs 5 0 ≡ 116 → Some Target ≡ known bs
+is_target bs least most p q r s t u = sym (ap known (six_are bs 116 97 114 103 101 116 least most p q r s t u))

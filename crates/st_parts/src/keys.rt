@@ -26,30 +26,19 @@ pub(crate) enum Key {
 fn known_key(bytes: &[u8]) -> Option<Key>
     ensures { result ≡ known bytes.now }
 {
-    if bytes == b"source".as_slice() {
-        Some(Key::Source)
-    } else if bytes == b"target".as_slice() {
-        Some(Key::Target)
-    } else if bytes == b"edge".as_slice() {
-        Some(Key::Edge)
-    } else if bytes == b"node".as_slice() {
-        Some(Key::Node)
-    } else if bytes == b"id".as_slice() {
-        Some(Key::Id)
-    } else if bytes == b"e".as_slice() {
-        Some(Key::Name)
-    } else if bytes == b"label".as_slice() {
-        Some(Key::Label)
-    } else if bytes == b"order".as_slice() {
-        Some(Key::Order)
-    } else if bytes == b"path".as_slice() {
-        Some(Key::Path)
-    } else if bytes == b"outer".as_slice() {
-        Some(Key::Outer)
-    } else if bytes == b"side".as_slice() {
-        Some(Key::Side)
-    } else {
-        None
+    match bytes {
+        [b's', b'o', b'u', b'r', b'c', b'e'] => Some(Key::Source),
+        [b't', b'a', b'r', b'g', b'e', b't'] => Some(Key::Target),
+        [b'e', b'd', b'g', b'e'] => Some(Key::Edge),
+        [b'n', b'o', b'd', b'e'] => Some(Key::Node),
+        [b'i', b'd'] => Some(Key::Id),
+        [b'e'] => Some(Key::Name),
+        [b'l', b'a', b'b', b'e', b'l'] => Some(Key::Label),
+        [b'o', b'r', b'd', b'e', b'r'] => Some(Key::Order),
+        [b'p', b'a', b't', b'h'] => Some(Key::Path),
+        [b'o', b'u', b't', b'e', b'r'] => Some(Key::Outer),
+        [b's', b'i', b'd', b'e'] => Some(Key::Side),
+        _ => None,
     }
 }
 

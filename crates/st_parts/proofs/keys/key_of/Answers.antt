@@ -1,4 +1,4 @@
-use Rattle.std.proofs.Common.{◌≡◌, Option, subst, sym}
+use Rattle.std.proofs.Common.{Option, subst, sym}
 use Rattle.gml_core.specs.Views.{entry_view}
 use Rattle.st_parts.specs.Keys.{IsKnown}
 use Rattle.st_parts.specs.declared.keys.Key.{Key}

@@ -1,4 +1,4 @@
-use Rattle.std.proofs.Common.{Some, refl}
+use Rattle.std.proofs.Common.{refl}
 use Rattle.gml_core.specs.Trees.{key}
 use Rattle.gml_core.proofs.Builds.{wait_takes}
 use Rattle.gml_core.proofs.parsing.Builder.wait.Goals as goal

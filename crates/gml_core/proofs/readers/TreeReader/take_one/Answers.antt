@@ -1,6 +1,6 @@
 use Rattle.std.proofs.Common.{◌+◌, Some, length, refl, arith}
 use Rattle.gml_core.proofs.Looked.{space_goes, closes_between, placed_between, rank_between, tree_goes, tree_closes, tree_refused}
-use Rattle.gml_core.proofs.readers.TreeReader.take.Goals as goal
+use Rattle.gml_core.proofs.readers.TreeReader.take_one.Goals as goal
 
 pub returns-then-is_space-clause-reads : goal.returns-then-is_space-clause-reads
 returns-then-is_space-clause-reads c = λ b reads.
