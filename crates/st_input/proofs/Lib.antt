@@ -6,3 +6,7 @@ pub mod BuildLemmas
 pub mod LawLemmas
 pub mod PlainLemmas
 pub mod ReadBack
+pub mod ZeroPlaces
+pub mod WrittenBack
+pub mod WrittenLemmas
+pub mod WritableLemmas

@@ -1,22 +1,21 @@
 -- The graph of a digraph alone: its tables are these, and fit together.
-use Rattle.std.proofs.Common.{◌≡◌, ◌≢◌, ◌<◌, ◌≤◌, codes, ◌+◌, ◌^◌, ℕ, ℤ, pos, Bool, true, false, cond, List, [], ◌∷◌, ◌++◌, length, map, get_or, slice_get, refl, ap, sym, subst, ◌∙◌, zero-add, arith, Option, Some, None, All}
+use Rattle.std.proofs.Common.{◌≡◌, ◌≢◌, ◌<◌, ◌+◌, ◌^◌, ℕ, ℤ, pos, Bool, true, false, cond, List, [], ◌∷◌, ◌++◌, length, map, get_or, slice_get, refl, ap, sym, subst, ◌∙◌, zero-add, arith, Option, Some, None, All}
 use Rattle.std.specs.Prelude.{replicate}
 use Rattle.std.specs.List.{range_with_len}
 use Rattle.std.specs.Ordering.{int_eq}
 use Rattle.std.proofs.lemmas.List.Folds.{list_any_none}
-use Rattle.std.proofs.lemmas.List.{length-append, length-map, length-replicate, get_or-replicate, get_or_default}
+use Rattle.std.proofs.lemmas.List.{length-replicate, get_or-replicate, get_or_default}
 use Rattle.std.proofs.lemmas.List.FromFn.{length-map-range_with_len, get_or-map-range_with_len, map-range_with_len_more}
 use Rattle.std.proofs.lemmas.Option.{get_or_from_slice_get, slice_get_within}
 use Rattle.st_ids.specs.Graph.{Graph, AreWithin, tail_of, head_of}
 use Rattle.st_ids.specs.Lists.{In}
-use Rattle.gml_core.specs.Trees.{list, Entry, entry, Entries, none, more, listed, push, depth, entry_depth}
+use Rattle.gml_core.specs.Trees.{Entry, Entries, none, more, listed, push}
 use Rattle.gml_core.specs.Views.{entries_of}
-use Rattle.gml_core.specs.Sound.{IsSound}
 use Rattle.st_input.specs.Found.{tabled}
-use Rattle.st_input.specs.InputGraph.{InputGraph, IsConsistent, AreLabels, AreListed}
+use Rattle.st_input.specs.InputGraph.{IsConsistent, AreLabels, AreListed}
 use Rattle.st_input.specs.Names.{AreDifferent, is_among, positions}
 use Rattle.st_input.specs.Orders.{IsWithin, Filled, default_order}
-use Rattle.st_input.specs.Plain.{counted, default_orders, plain_graph, int_pair, node_pair, edge_pair, graph_pairs, plain_entries, IsFlat}
+use Rattle.st_input.specs.Plain.{counted, default_orders, plain_graph}
 use Rattle.st_input.proofs.NameLemmas.{positions_length, positions_differ, other_pos}
 use Rattle.st_input.proofs.FitLemmas.{default_within}
 use Rattle.st_input.proofs.Fills.{same_lists_at}
@@ -141,7 +140,7 @@ plain_tabled g vs es ls os ps e0 e1 e2 e3 e4 = rw (e0, e1, e2, e3, e4) refl
 pub plain_built : (g : Graph) (n k m : ℕ) (vs es : List ℤ) (ls : List (Option (List ℕ))) (os : List (List ℕ)) (ps : List (List ℤ)) → vs ≡ counted n → n ≡ g.vertices → es ≡ positions m → m ≡ length g.ends → ls ≡ replicate k None → k ≡ g.vertices → os ≡ default_orders g → ps ≡ [] → tabled g (record { vertex = vs; edge = es; label = ls }) os None ps ≡ plain_graph g
 plain_built g n k m vs es ls os ps e0 n_is e1 m_is e2 k_is e3 e4 = plain_tabled g vs es ls os ps (e0 ∙ ap counted n_is) (e1 ∙ ap positions m_is) (e2 ∙ ap (λ (j : ℕ). replicate j None) k_is) e3 e4
 
--- ---- the tree of the file
+-- ---- a pair more
 pub listed_push : (es : Entries) (e : Entry) → listed (push es e) ≡ listed es ++ e ∷ []
 listed_push none e = refl
 listed_push (more d es) e = ap (λ (l : List Entry). d ∷ l) (listed_push es e)
@@ -150,66 +149,5 @@ pub entries_listed : (es : Entries) → entries_of (listed es) ≡ es
 entries_listed none = refl
 entries_listed (more e es) = ap (λ (l : Entries). more e l) (entries_listed es)
 
-depth_push : (es : Entries) (e : Entry) (n : ℕ) → depth es ≤ n → entry_depth e ≤ n → depth (push es e) ≤ n
-depth_push none e n le le' = omega (arith, le')
-depth_push (more d es) e n le le' = let others = depth_push es e n (omega (arith, le)) le' in omega (arith, le, others)
-
--- sound pairs stay so
-flat_push : (old new : Entries) (e : Entry) → IsFlat old → new ≡ push old e → IsSound new → entry_depth e ≤ 1 → IsFlat new
-flat_push old new e is same sound le = record {
-  sound = sound;
-  flat = subst (λ (es : Entries). depth es ≤ 1) (sym same) (depth_push old e 1 is.flat le);
-}
-
 pub pushed_pairs : (old new : Entries) (e : Entry) → new ≡ push old e → listed new ≡ listed old ++ e ∷ []
 pushed_pairs old new e is = ap (λ (l : Entries). listed l) is ∙ listed_push old e
-
--- a vertex more
-pub node_pushed : (old new start inner : Entries) (z name : ℤ) → z ≡ name → start ≡ none → inner ≡ push start (int_pair (codes "id") z) → new ≡ push old (entry (codes "node") 0 (list inner)) → new ≡ push old (node_pair name)
-node_pushed old new start inner z name z_is empty id is = is ∙ ap (λ (l : Entries). push old (entry (codes "node") 0 (list l))) (id ∙ ap (λ (l : Entries). push l (int_pair (codes "id") z)) empty) ∙ ap (λ (x : ℤ). push old (node_pair x)) z_is
-
-pub node_flat : (old new : Entries) (name : ℤ) → IsFlat old → new ≡ push old (node_pair name) → IsSound new → IsFlat new
-node_flat old new name flat is sound = flat_push old new (node_pair name) flat is sound (omega arith)
-
--- an edge more
-pub edge_pushed : (names : List ℤ) (a : ℕ × ℕ) (old new start one two : Entries) (v w x y : ℤ) → slice_get names a.0 ≡ Some v → slice_get names a.1 ≡ Some w → x ≡ v → y ≡ w → start ≡ none → one ≡ push start (int_pair (codes "source") x) → two ≡ push one (int_pair (codes "target") y) → new ≡ push old (entry (codes "edge") 0 (list two)) → new ≡ push old (edge_pair names a)
-edge_pushed names a old new start one two v w x y tail head x_as y_as empty source target is =
-    let x_is : get_or names a.0 (pos 0) ≡ x = get_or_from_slice_get names a.0 v (pos 0) tail ∙ sym x_as in
-    let y_is : get_or names a.1 (pos 0) ≡ y = get_or_from_slice_get names a.1 w (pos 0) head ∙ sym y_as in
-    is ∙ ap (λ (l : Entries). push old (entry (codes "edge") 0 (list l))) (target ∙ ap (λ (l : Entries). push l (int_pair (codes "target") y)) (source ∙ ap (λ (l : Entries). push l (int_pair (codes "source") x)) empty)) ∙ rw (x_is, y_is) refl
-
-pub edge_flat : (old new : Entries) (names : List ℤ) (a : ℕ × ℕ) → IsFlat old → new ≡ push old (edge_pair names a) → IsSound new → IsFlat new
-edge_flat old new names a flat is sound = flat_push old new (edge_pair names a) flat is sound (omega arith)
-
--- how many pairs there are
-pub first_room : (n m : ℕ) (first : Entries) (names table : List ℤ) → listed first ≡ int_pair (codes "directed") (pos 1) ∷ [] → names ≡ table → length table ≡ n → n < 2 ^ 30 → m < 2 ^ 30 → length (listed first) + length names < 2 ^ 31
-first_room n m first names table e0 e1 e2 few_n few_m =
-    let one : length (listed first) ≡ 1 = ap (λ (l : List Entry). length l) e0 in
-    let size : length names ≡ n = ap (λ (l : List ℤ). length l) e1 ∙ e2 in
-    omega arith
-
-pub then_room : (n m : ℕ) (first nodes : Entries) (names table : List ℤ) → listed first ≡ int_pair (codes "directed") (pos 1) ∷ [] → listed nodes ≡ listed first ++ map node_pair names → names ≡ table → length table ≡ n → n < 2 ^ 30 → m < 2 ^ 30 → length (listed nodes) + m < 2 ^ 31
-then_room n m first nodes names table e0 e1 e2 e3 few_n few_m =
-    let one : length (listed first) ≡ 1 = ap (λ (l : List Entry). length l) e0 in
-    let size : length names ≡ n = ap (λ (l : List ℤ). length l) e2 ∙ e3 in
-    let both : length (listed nodes) ≡ length (listed first) + length (map node_pair names) = ap (λ (l : List Entry). length l) e1 ∙ length-append (listed first) (map node_pair names) in
-    let count : length (map node_pair names) ≡ length names = length-map names node_pair in
-    omega arith
-
-pub names_within : (g : InputGraph) (h : Graph) (names : List ℤ) (ends : List (ℕ × ℕ)) → h ≡ g.graph → names ≡ g.vertex_names → length g.vertex_names ≡ g.graph.vertices → ends ≡ h.ends → AreWithin h.vertices h.ends → All (IsWithin (length names)) ends
-names_within g h names ends e0 e1 e2 e3 within =
-    let size : length names ≡ h.vertices = ap (λ (l : List ℤ). length l) e1 ∙ e2 ∙ sym (ap (λ (k : Graph). k.vertices) e0) in
-    rw (size, e3) (ends_within h.vertices h.ends within)
-
--- the first pair
-pub directed_first : (start es : Entries) → start ≡ none → es ≡ push start (int_pair (codes "directed") (pos 1)) → listed es ≡ int_pair (codes "directed") (pos 1) ∷ []
-directed_first start es empty is = ap (λ (l : Entries). listed l) (is ∙ ap (λ (l : Entries). push l (int_pair (codes "directed") (pos 1))) empty)
-
-pub graph_pairs_are : (g : InputGraph) (first nodes edges : Entries) (names table : List ℤ) (ends : List (ℕ × ℕ)) → listed first ≡ int_pair (codes "directed") (pos 1) ∷ [] → listed nodes ≡ listed first ++ map node_pair names → listed edges ≡ listed nodes ++ map (edge_pair table) ends → names ≡ table → table ≡ g.vertex_names → ends ≡ g.graph.ends → listed edges ≡ graph_pairs g
-unfolding graph_pairs
-graph_pairs_are g first nodes edges names table ends e0 e1 e2 n0 n1 n2 = e2 ∙ ap (λ (l : List Entry). l ++ map (edge_pair table) ends) (e1 ∙ ap (λ (l : List Entry). l ++ map node_pair names) e0) ∙ rw (n0, n1, n2) refl
-
--- the one pair of the file
-pub plain_is : (g : InputGraph) (es inner : Entries) → listed inner ≡ graph_pairs g → es ≡ push none (entry (codes "graph") 0 (list inner)) → es ≡ plain_entries g
-unfolding plain_entries
-plain_is g es inner pairs is = is ∙ ap (λ (l : Entries). more (entry (codes "graph") 0 (list l)) none) (sym (entries_listed inner) ∙ ap entries_of pairs)

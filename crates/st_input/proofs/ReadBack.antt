@@ -97,7 +97,7 @@ directed_inv P f (entry key i (atom a)) e =
     let same : int_at (codes "directed") i (pos 1) ≡ entry key i (atom a) = cc in
     subst P same (f i)
 
-graph_inv : (P : Entries → Type 0) (inner : Entries) → ((i : ℕ) (es : Entries) → at_zero es ≡ inner → P (more (entry (codes "graph") i (list es)) none)) → (text : Entries) → at_zero text ≡ more (entry (codes "graph") 0 (list inner)) none → P text
+pub graph_inv : (P : Entries → Type 0) (inner : Entries) → ((i : ℕ) (es : Entries) → at_zero es ≡ inner → P (more (entry (codes "graph") i (list es)) none)) → (text : Entries) → at_zero text ≡ more (entry (codes "graph") 0 (list inner)) none → P text
 graph_inv P inner f none e = absurd (cc)
 graph_inv P inner f (more (entry key i (atom a)) es) e = absurd (cc)
 graph_inv P inner f (more (entry key i (list l)) (more d es)) e = absurd (cc)
@@ -148,7 +148,7 @@ unfolding graph_pairs
 zero_pairs g = ap (λ (l : Entries). more (int_pair (codes "directed") (pos 1)) l) (zero_nodes g.vertex_names g.vertex_names g.graph.ends)
 
 -- ---- no fault
-none_or : {A : Type 0} (a b : Option A) → a ≡ None → b ≡ None → or_else a b ≡ None
+pub none_or : {A : Type 0} (a b : Option A) → a ≡ None → b ≡ None → or_else a b ≡ None
 none_or a b e f = rw (e, f) refl
 
 nodes_count : (zs : List ℤ) (ns : List Node) → AreNodes zs ns → length ns ≡ length zs
@@ -180,7 +180,7 @@ orders_default names (z ∷ zs) ends k (n ∷ ns) p =
     let rest = orders_default names zs ends (k + 1) ns p.2 in
     rw (p.1) (ap (λ (l : List (List ℕ)). default_order ends k ∷ l) rest)
 
-get_left : (xs ys : List ℤ) (k : ℕ) → k < length xs → slice_get (xs ++ ys) k ≡ slice_get xs k
+pub get_left : (xs ys : List ℤ) (k : ℕ) → k < length xs → slice_get (xs ++ ys) k ≡ slice_get xs k
 get_left [] ys k lt = absurd (omega arith)
 get_left (x ∷ xs) ys zero lt = refl
 get_left (x ∷ xs) ys (suc k) lt = get_left xs ys k (omega arith)
@@ -190,7 +190,7 @@ get_next [] z zs = refl
 get_next (x ∷ xs) z zs = get_next xs z zs
 
 -- where names differ, each is new
-fresh_next : (xs : List ℤ) (z : ℤ) (zs : List ℤ) → AreDifferent (xs ++ z ∷ zs) → is_among xs z ≡ false
+pub fresh_next : (xs : List ℤ) (z : ℤ) (zs : List ℤ) → AreDifferent (xs ++ z ∷ zs) → is_among xs z ≡ false
 unfolding is_among
 fresh_next xs z zs differ = list_any_none (int_eq z) xs (λ k d lt. decided_false (int_eq z (get_or xs k d)) (z ≡ get_or xs k d) (Decides-int_eq z (get_or xs k d)) (λ e. other k d lt e))
   where
@@ -251,7 +251,7 @@ unfolding edge_names positions
 names_positions table [] = refl
 names_positions table (a ∷ ends) = ap (λ (m : ℕ). positions (suc m)) (length-map ends (plain_edge table))
 
-limits_clear : (a b x y : ℕ) → a ≤ x → b ≤ y → limits_fault a b x y ≡ None
+pub limits_clear : (a b x y : ℕ) → a ≤ x → b ≤ y → limits_fault a b x y ≡ None
 limits_clear a b x y p q = grind (arith, nat_tests)
 
 graph_right : (xs : List Entry) → first (codes "outer") xs ≡ None → earliest part_wrong xs ≡ None → graph_wrong xs ≡ None

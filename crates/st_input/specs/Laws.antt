@@ -2,14 +2,18 @@
 --   FitsTogether   the tables of the graph of a text without a fault fit together
 --   KeepsLimits    a graph that is accepted is within the limits
 --   ReadsBack      the file of a plain graph is read again as that graph, whatever the places of its pairs
-use Rattle.std.specs.Prelude.{◌≡◌, ◌<◌, ◌≤◌, ◌^◌, ℕ, length, None, Some}
+--   ReadIsWritable   the graph of a sound text within limits can be written
+--   WrittenReadsBack   so is the file of any graph without written paths, with all that the graph has
+use Rattle.std.specs.Prelude.{◌≡◌, ◌+◌, ◌<◌, ◌≤◌, ◌^◌, ℕ, [], length, None, Some}
 use Rattle.st_ids.specs.Graph.{Graph, HasEnds}
 use Rattle.gml_core.specs.Trees.{Entries}
 use Rattle.gml_core.specs.Printing.{at_zero}
+use Rattle.gml_core.specs.Sound.{IsSound}
 use Rattle.st_input.specs.InputGraph.{InputGraph, IsConsistent}
 use Rattle.st_input.specs.Embedding.{embedded_graph}
 use Rattle.st_input.specs.FirstFault.{shape_fault}
 use Rattle.st_input.specs.Plain.{plain_graph, plain_entries}
+use Rattle.st_input.specs.Written.{IsWritable, written_entries}
 
 -- the tables of the graph of a text without a fault fit together
 abbrev pub FitsTogether : Type 0
@@ -22,3 +26,12 @@ KeepsLimits = (text : Entries) (max_n max_m : ℕ) (g : InputGraph) → shape_fa
 -- a text with the pairs of a plain graph within the limits, at any places, has no fault, and its graph is that one
 abbrev pub ReadsBack : Type 0
 ReadsBack = (g : Graph) (text : Entries) (max_n max_m : ℕ) → HasEnds g → g.vertices ≤ max_n → length g.ends ≤ max_m → at_zero text ≡ at_zero (plain_entries (plain_graph g)) → (shape_fault text max_n max_m ≡ None) × (embedded_graph text ≡ Some (plain_graph g))
+
+-- a text with the written pairs of a graph without written paths, within the limits and at any places, has no fault, and
+-- its graph is that one
+abbrev pub WrittenReadsBack : Type 0
+WrittenReadsBack = (g : InputGraph) (text : Entries) (max_n max_m : ℕ) → IsConsistent g → HasEnds g.graph → g.paths ≡ [] → g.graph.vertices ≤ max_n → length g.graph.ends ≤ max_m → at_zero text ≡ at_zero (written_entries g) → (shape_fault text max_n max_m ≡ None) × (embedded_graph text ≡ Some g)
+
+-- the graph of a sound text within the limits can be written
+abbrev pub ReadIsWritable : Type 0
+ReadIsWritable = (text : Entries) (max_n max_m : ℕ) (g : InputGraph) → IsSound text → max_n + max_m + 2 < 2 ^ 31 → max_m < 2 ^ 30 → shape_fault text max_n max_m ≡ None → embedded_graph text ≡ Some g → IsWritable g

@@ -9,4 +9,5 @@ pub mod FirstFault
 pub mod GraphSpec
 pub mod Found
 pub mod Plain
+pub mod Written
 pub mod Laws

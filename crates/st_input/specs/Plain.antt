@@ -3,14 +3,12 @@
 --   default_orders g     the default order of each vertex
 --   plain_graph g        the graph
 --   plain_entries g      the tree of its file: one pair `graph`, with a pair for each vertex and each edge
---   IsFlat es            sound pairs, with no list inside their lists
--- Letters: g digraph or graph, n how many, es pairs.
-use Rattle.std.specs.Prelude.{ℕ, ℤ, pos, ◌≤◌, List, [], ◌∷◌, ◌++◌, map, length, replicate, slice_index_or, codes, None}
+-- Letters: g digraph or graph, n how many.
+use Rattle.std.specs.Prelude.{ℕ, ℤ, pos, List, [], ◌∷◌, ◌++◌, map, length, replicate, slice_index_or, codes, None}
 use Rattle.std.specs.List.{range_with_len}
 use Rattle.st_ids.specs.Graph.{Graph}
-use Rattle.gml_core.specs.Trees.{atom, int, list, Entry, entry, Entries, none, more, depth}
+use Rattle.gml_core.specs.Trees.{atom, int, list, Entry, entry, Entries, none, more}
 use Rattle.gml_core.specs.Views.{entries_of}
-use Rattle.gml_core.specs.Sound.{IsSound}
 use Rattle.st_input.specs.Names.{positions}
 use Rattle.st_input.specs.Orders.{default_order}
 use Rattle.st_input.specs.InputGraph.{InputGraph}
@@ -54,8 +52,3 @@ graph_pairs g = int_pair (codes "directed") (pos 1) ∷ (map node_pair g.vertex_
 -- the tree of the file: the one pair `graph`
 unfoldable pub plain_entries : InputGraph → Entries
 plain_entries g = more (entry (codes "graph") 0 (list (entries_of (graph_pairs g)))) none
-
--- sound pairs, with no list inside their lists
-pub record IsFlat (es : Entries) : Type 0 where
-  pub sound : IsSound es
-  pub flat : depth es ≤ 1

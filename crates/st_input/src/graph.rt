@@ -11,6 +11,7 @@ ghost use Rattle.st_input.specs.InputGraph.{AreLabels, AreListed, IsConsistent};
 ghost use Rattle.st_input.specs.Names.{AreDifferent};
 ghost use Rattle.st_parts.specs.Parts.{parts_in};
 ghost use Rattle.st_input.specs.Paths.{ArePathsThere, PathsFailBy, path_name_fault, paths_by};
+ghost use Rattle.st_input.specs.Written.{IsWritable, with_ends};
 ghost use Rattle.st_parts.specs.Used.{HasSoundList, datum_of, first};
 ghost use Rattle.std.specs.Prelude.{◌≡◌, ◌≢◌, ◌<◌, ◌≤◌, ◌*◌, ◌^◌, ℕ, codes, length, option_map, slice_get, None, Some, IfOk, IfSome, MatchOption, OnOk};
 
@@ -70,10 +71,12 @@ impl GraphSpec {
         ensures edge { result.now.edge ≡ self.now.edge_names }
         ensures label { result.now.label ≡ self.now.labels }
 
-        // There is one of each, names of vertices differ and so do those of edges, and what is to be shown can be shown.
+        // There is one of each, names of vertices differ and so do those of edges, and what is to be shown can be
+        // shown.
         ensures vertices { length self.now.vertex_names ≡ self.now.graph.vertices }
         ensures few { length self.now.vertex_names < 2 ^ 30 }
         ensures edges { length self.now.edge_names ≡ length self.now.graph.ends }
+        ensures few_edges { length self.now.edge_names < 2 ^ 30 }
         ensures labels { length self.now.labels ≡ self.now.graph.vertices }
         ensures different { AreDifferent self.now.vertex_names }
         ensures edges_different { AreDifferent self.now.edge_names }
@@ -122,6 +125,39 @@ impl GraphSpec {
         ensures fault { PathsFailBy (path_name_fault self.now.edge_names self.now.paths) result }
     {
         paths_of(alloc, &self.edge_names, self.paths.as_slice())
+    }
+
+    /// The same vertices and edges with their names, labels and orders, where the edges have the ends that `graph`
+    /// says.
+    ///
+    /// Shape: the outer face is that of the end `outer`; there are no written paths.
+    /// Cost: O(1); the tables are handed on. Not proved.
+    #[tactic(auto, using(crate::proofs::WrittenLemmas::ends_fit))]
+    pub fn with_ends(self, alloc: Global, graph: Digraph, outer: Dart) -> GraphSpec
+        requires vertices { graph.vertices ≡ self.graph.vertices }
+        requires edges { length graph.ends ≡ length self.graph.ends }
+        requires outer { outer.0 < 2 * length graph.ends }
+        ensures value { result ≡ with_ends self graph outer.0 }
+        ensures consistent { IsConsistent result }
+        ensures writable { IsWritable self → IsWritable result }
+    {
+        let GraphSpec {
+            names,
+            orders,
+            by_name,
+            edge_names,
+            ..
+        } = self;
+        let paths = Items::new(alloc);
+        assemble(
+            graph,
+            names,
+            orders,
+            Some(outer),
+            paths,
+            by_name,
+            edge_names,
+        )
     }
 }
 

@@ -1,5 +1,5 @@
 //! What the definitions say together. Each function does nothing, and its contract is a law.
-ghost use Rattle.st_input.specs.Laws.{FitsTogether, KeepsLimits, ReadsBack};
+ghost use Rattle.st_input.specs.Laws.{FitsTogether, KeepsLimits, ReadIsWritable, ReadsBack, WrittenReadsBack};
 
 /// The tables of the graph of a text without a fault fit together: one name, one label and one order for each vertex,
 /// one name for each edge, different names, labels that can be shown, and orders that list edges of the graph alone.
@@ -16,4 +16,16 @@ pub fn limits_hold()
 /// the limits. What `parse` answers of the printed tree differs from the tree in places alone.
 pub fn reads_back()
     ensures { ReadsBack }
+{}
+
+/// The tree of a graph without written paths, with its names, labels, orders and outer face, is read again as that
+/// graph, whatever the places of its pairs, where the graph is within the limits.
+pub fn written_reads_back()
+    ensures { WrittenReadsBack }
+{}
+
+/// The graph of a sound text without a fault, within limits that leave room in a list for all its pairs, can be
+/// written.
+pub fn read_is_writable()
+    ensures { ReadIsWritable }
 {}

@@ -12,10 +12,11 @@ mod outer;
 mod paths;
 mod plain;
 mod tables;
+mod written;
 
 pub use fault::{PathNameFault, ShapeFault};
 pub use graph::{GraphSpec, read_graph};
-pub use plain::plain_tree;
+pub use written::{plain_tree, written_tree};
 
 #[cfg(test)]
 mod tests {
@@ -221,6 +222,28 @@ mod tests {
         assert_eq!(rt;
             text.bytes(),
             b"graph [\ndirected 1\nnode [\nid 1\n]\nnode [\nid 2\n]\nnode [\nid 3\n]\nedge [\nsource 1\ntarget 2\n]\nedge [\nsource 1\ntarget 3\n]\nedge [\nsource 3\ntarget 2\n]\n]\n".as_slice()
+        );
+        Ok(())
+    }
+
+    /// The text that is written of the graph of a text.
+    fn written_text(alloc: Global, text: &[u8]) -> Result<Text, Fail> {
+        if text.len() > 400 {
+            return Err(Fail::from(ShapeFault::NoMemory));
+        }
+        let tree = parse(alloc, text)?;
+        let spec = read_graph(alloc, &tree, 3, 4)?;
+        laws::read_is_writable();
+        let written = written_tree(alloc, &spec)?;
+        Ok(print(alloc, &written)?)
+    }
+
+    #[test]
+    fn a_graph_is_written_whole(rt: HostRuntime) -> Result<(), Fail> {
+        let text = written_text(rt.alloc(), TEXT)?;
+        assert_eq!(rt;
+            text.bytes(),
+            b"graph [\ndirected 1\nouter [\nedge 12\nside 1\n]\nnode [\nid -1\nlabel \"s?(\"\norder [\ne 10\ne 12\ne 13\n]\n]\nnode [\nid 5\norder [\ne 11\ne 13\ne 12\n]\n]\nnode [\nid 7\norder [\ne 11\ne 10\n]\n]\nedge [\nid 10\nsource -1\ntarget 7\n]\nedge [\nid 11\nsource 5\ntarget 7\n]\nedge [\nid 12\nsource -1\ntarget 5\n]\nedge [\nid 13\nsource -1\ntarget 5\n]\n]\n".as_slice()
         );
         Ok(())
     }

@@ -1,18 +1,13 @@
 //! A graph that no file gives: a digraph with the names and the orders that its printed tree has.
-ghost use Rattle.gml_core.specs.Sound.{IsSound};
-ghost use Rattle.gml_core.specs.Trees.{listed};
-ghost use Rattle.gml_core.specs.Views.{view};
 ghost use Rattle.st_input.specs.InputGraph.{IsConsistent};
-ghost use Rattle.st_input.specs.Orders.{IsWithin};
-ghost use Rattle.st_input.specs.Plain.{IsFlat, counted, default_orders, edge_pair, graph_pairs, node_pair, plain_entries, plain_graph};
-ghost use Rattle.std.specs.Prelude.{◌≡◌, ◌+◌, ◌<◌, ◌^◌, [], ◌∷◌, ◌++◌, None, length, map, replicate, All, IfOk, OnOk};
+ghost use Rattle.st_input.specs.Plain.{counted, default_orders, plain_graph};
+ghost use Rattle.std.specs.Prelude.{◌≡◌, ◌<◌, ◌^◌, [], None, replicate, IfOk};
 
 use crate::edges::EdgeNames;
 use crate::graph::{GraphSpec, assemble};
 use crate::names::{NameSet, Salted};
 use crate::orders::fill_free;
 use crate::tables::positions_table;
-use gml_core::Tree;
 use sqlite_items::Items;
 use st_ids::{Digraph, EdgeList, IdVec, Names, NoMemory, Text, VertexId};
 use std::alloc::Global;
@@ -96,101 +91,4 @@ impl GraphSpec {
         let paths = Items::new(alloc);
         Ok(assemble(graph, names, orders, None, paths, by_name, edge_names))
     }
-}
-
-/// Appends a vertex with its name.
-#[tactic(auto, unfolding(gml_core::specs::Lexing::token_at))]
-fn push_node(alloc: Global, graph: &mut Tree, name: i64) -> Result<(), NoMemory>
-    requires flat { IsFlat (view graph.old) }
-    requires room { length (listed (view graph.old)) + 1 < 2 ^ 31 }
-    ensures pairs { OnOk result (listed (view graph.new) ≡ listed (view graph.old) ++ node_pair name ∷ []) }
-    ensures flat { OnOk result (IsFlat (view graph.new)) }
-{
-    let mut node = Tree::new(alloc);
-    node.push_int(b"id", name)?;
-    graph.push_list(b"node", node)?;
-    Ok(())
-}
-
-/// Appends an edge with the names of its ends.
-#[tactic(auto, unfolding(gml_core::specs::Lexing::token_at))]
-fn push_edge(
-    alloc: Global,
-    graph: &mut Tree,
-    names: &IdVec<VertexId, i64>,
-    ends: (u32, u32),
-) -> Result<(), NoMemory>
-    requires flat { IsFlat (view graph.old) }
-    requires room { length (listed (view graph.old)) + 1 < 2 ^ 31 }
-    requires within { IsWithin (length names.now) ends }
-    ensures pairs { OnOk result (listed (view graph.new) ≡ listed (view graph.old) ++ edge_pair names.now ends ∷ []) }
-    ensures flat { OnOk result (IsFlat (view graph.new)) }
-{
-    let mut edge = Tree::new(alloc);
-    edge.push_int(b"source", *names.get(VertexId(ends.0)))?;
-    edge.push_int(b"target", *names.get(VertexId(ends.1)))?;
-    graph.push_list(b"edge", edge)?;
-    Ok(())
-}
-
-fn push_nodes(alloc: Global, graph: &mut Tree, names: &[i64]) -> Result<(), NoMemory>
-    requires flat { IsFlat (view graph.old) }
-    requires room { length (listed (view graph.old)) + length names.now < 2 ^ 31 }
-    ensures pairs { OnOk result (listed (view graph.new) ≡ listed (view graph.old) ++ map node_pair names.now) }
-    ensures flat { OnOk result (IsFlat (view graph.new)) }
-{
-    for name in names {
-        push_node(alloc, graph, *name)?;
-    }
-    Ok(())
-}
-
-fn push_edges(
-    alloc: Global,
-    graph: &mut Tree,
-    names: &IdVec<VertexId, i64>,
-    ends: &[(u32, u32)],
-) -> Result<(), NoMemory>
-    requires flat { IsFlat (view graph.old) }
-    requires room { length (listed (view graph.old)) + length ends.now < 2 ^ 31 }
-    requires within { All (IsWithin (length names.now)) ends.now }
-    ensures pairs { OnOk result (listed (view graph.new) ≡ listed (view graph.old) ++ map (edge_pair names.now) ends.now) }
-    ensures flat { OnOk result (IsFlat (view graph.new)) }
-{
-    for pair in ends {
-        push_edge(alloc, graph, names, *pair)?;
-    }
-    Ok(())
-}
-
-/// What the pair `graph` holds.
-#[tactic(auto, unfolding(gml_core::specs::Lexing::token_at))]
-fn graph_tree(alloc: Global, spec: &GraphSpec) -> Result<Tree, NoMemory>
-    ensures pairs { IfOk result (λ t. listed (view t) ≡ graph_pairs spec.now) }
-    ensures flat { IfOk result (λ t. IsFlat (view t)) }
-{
-    let names = &spec.names().vertex;
-    let ends = spec.graph().ends();
-    let mut graph = Tree::new(alloc);
-    graph.push_int(b"directed", 1)?;
-    push_nodes(alloc, &mut graph, names.items())?;
-    push_edges(alloc, &mut graph, names, ends)?;
-    Ok(graph)
-}
-
-/// The tree of a file with the graph's vertices, by their names, and its edges, and with nothing else.
-///
-/// Shape: one pair `graph` with `directed 1`, then a `node` with its `id` for each vertex, then an `edge` with `source`
-/// and `target` for each edge. Each place is 0.
-/// Errors: `NoMemory`.
-/// Cost: O(V + E), one list for each vertex and edge.
-#[tactic(auto, unfolding(gml_core::specs::Lexing::token_at))]
-pub fn plain_tree(alloc: Global, spec: &GraphSpec) -> Result<Tree, NoMemory>
-    ensures entries { IfOk result (λ t. view t ≡ plain_entries spec.now) }
-    ensures sound { IfOk result (λ t. IsSound (view t)) }
-{
-    let graph = graph_tree(alloc, spec)?;
-    let mut tree = Tree::new(alloc);
-    tree.push_list(b"graph", graph)?;
-    Ok(tree)
 }
