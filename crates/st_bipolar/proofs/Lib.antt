@@ -1,0 +1,17 @@
+pub mod AboveLemmas
+pub mod OrderedLemmas
+pub mod PlacedLemmas
+pub mod CutLemmas
+pub mod VisitedLemmas
+pub mod SearchLemmas
+pub mod TableLemmas
+pub mod GoingLemmas
+pub mod PlaceLemmas
+pub mod LinkLemmas
+pub mod FaultLemmas
+pub mod NamingLemmas
+pub mod RootLemmas
+pub mod TurnLemmas
+pub mod OrientLemmas
+pub mod RebuildLemmas
+pub mod KeptLemmas

@@ -1,0 +1,14 @@
+pub mod Search
+pub mod Places
+pub mod Undirected
+pub mod Visits
+pub mod Laws
+pub mod SearchState
+pub mod SearchTables
+pub mod Ordering
+pub mod Faults
+pub mod Numbering
+pub mod Orientation
+pub mod Turning
+pub mod Kept
+pub mod OrientFault
