@@ -1,0 +1,14 @@
+pub mod BestLemmas
+pub mod CleanLemmas
+pub mod FrontLemmas
+pub mod LodgeLemmas
+pub mod NameLemmas
+pub mod OverlapLemmas
+pub mod PairLemmas
+pub mod PointLemmas
+pub mod ShapeLemmas
+pub mod SpanLemmas
+pub mod StripLemmas
+pub mod SweepLemmas
+pub mod TileLemmas
+pub mod VerdictLemmas

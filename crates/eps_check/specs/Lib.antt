@@ -1,0 +1,9 @@
+pub mod Fronts
+pub mod Names
+pub mod Pairs
+pub mod Shapes
+pub mod Spans
+pub mod Strips
+pub mod Sweeps
+pub mod Verdicts
+pub mod Views
