@@ -22,7 +22,7 @@ spaced-append [] ms = refl
 spaced-append (n ∷ ns) ms = ap (λ l. numbered (codes " ") n [] ++ l) (spaced-append ns ms) ∙ sym (append_assoc (numbered (codes " ") n []) (spaced ns) (spaced ms))
 
 -- one name more
-spaced-push : (ns : List ℤ) (i : ℕ) (d : ℤ) → i < length ns → spaced (take (i + 1) ns) ≡ spaced (take i ns) ++ numbered (codes " ") (get_or ns i d) []
+pub spaced-push : (ns : List ℤ) (i : ℕ) (d : ℤ) → i < length ns → spaced (take (i + 1) ns) ≡ spaced (take i ns) ++ numbered (codes " ") (get_or ns i d) []
 spaced-push ns i d there = ap spaced (take_more ns i d there) ∙ spaced-append (take i ns) (get_or ns i d ∷ []) ∙ ap (λ l. spaced (take i ns) ++ l) (append-nil (numbered (codes " ") (get_or ns i d) []))
 
 -- some names are the beginning of their line

@@ -10,14 +10,19 @@ use Rattle.gml_core.specs.declared.fault.GmlFault.{GmlFault}
 use Rattle.gml_core.specs.declared.fault.GmlFault.TheVariants as gml
 use Rattle.st_input.specs.declared.fault.ShapeFault.{ShapeFault}
 use Rattle.st_input.specs.declared.fault.ShapeFault.TheVariants as shape
+use Rattle.st_shape.specs.declared.picture.Fault.{Fault}
+use Rattle.st_shape.specs.declared.picture.Fault.TheVariants as fault
+use Rattle.st_report.specs.declared.stop.TheConstants.{MOST_DRAWING_BYTES}
 use Rattle.st_report.specs.declared.stop.Status.{Status}
 use Rattle.st_report.specs.declared.stop.Status.TheVariants as status
 use Rattle.st_report.specs.declared.stop.NotSt.TheVariants as not_st
 use Rattle.st_report.specs.declared.stop.NotSt.{NotSt as Why}
 use Rattle.st_report.specs.declared.stop.BadPath.{BadPath}
 use Rattle.st_report.specs.declared.stop.BadPath.TheVariants as bad_path
+use Rattle.st_report.specs.declared.stop.NoOrientation.{NoOrientation as Unoriented}
+use Rattle.st_report.specs.declared.stop.NoOrientation.TheVariants as orientation
 use Rattle.st_report.specs.declared.stop.Refusal.{Refusal}
-use Rattle.st_report.specs.declared.stop.Refusal.TheVariants.{Words, TooManyBytes, Gml, Shape, NotSt, Path, UnknownVertex}
+use Rattle.st_report.specs.declared.stop.Refusal.TheVariants.{Words, TooManyBytes, Gml, Shape, NotSt, Path, UnknownVertex, TooLongDrawing, Eps, NotClean, NoOrientation}
 use Rattle.st_report.specs.declared.stop.Stop.{Stop}
 use Rattle.st_report.specs.declared.stop.Stop.TheVariants as stop
 
@@ -52,6 +57,10 @@ status_of (Shape fault) = shape_status fault
 status_of (NotSt why) = status.NotSt
 status_of (Path fault) = status.Path
 status_of (UnknownVertex name) = status.UnknownVertex
+status_of TooLongDrawing = status.Limit
+status_of (Eps line) = status.Eps
+status_of (NotClean fault) = status.NotClean
+status_of (NoOrientation why) = status.NoOrientation
 
 abbrev pub stop_status : Stop → Status
 stop_status (stop.Refused refusal) = status_of refusal
@@ -138,14 +147,35 @@ path_line (bad_path.NotAPath path) = numbered (codes "path: ") (pos path) (codes
 path_line (bad_path.SharedEdge path edge) = numbered (codes "path: ") (pos path) (codes " shares edge ") ++ numbered [] edge (codes "\n")
 path_line (bad_path.Crossing path other vertex) = numbered (codes "path: ") (pos path) (codes " crosses path ") ++ (numbered [] (pos other) (codes " at vertex ") ++ numbered [] vertex (codes "\n"))
 
+-- which items of a drawing are at fault, by their places from 0
+abbrev pub fault_line : Fault → List ℕ
+fault_line (fault.Alone item) = placed (codes "not clean: item ") item
+fault_line (fault.Pair first second) = numbered (codes "not clean: items ") (pos first) (codes " and ") ++ numbered [] (pos second) (codes "\n")
+fault_line fault.Area = codes "not clean: area\n"
+
+-- why a graph has no orientation with its poles
+abbrev pub orientation_line : Unoriented → List ℕ
+orientation_line orientation.OnePole = codes "no orientation: one vertex for both poles\n"
+orientation_line (orientation.Loop edge) = numbered (codes "no orientation: edge ") edge (codes " is a loop\n")
+orientation_line (orientation.Apart vertex) = numbered (codes "no orientation: vertex ") vertex (codes " is apart\n")
+orientation_line (orientation.Cut cut apart) = numbered (codes "no orientation: vertex ") cut (codes " cuts off vertex ") ++ numbered [] apart (codes "\n")
+
+-- a file with more bytes than a limit
+abbrev pub too_long_line : ℕ → List ℕ
+too_long_line most = numbered (codes "limit: more than ") (pos most) (codes " bytes\n")
+
 abbrev pub line_of : Refusal → List ℕ
 line_of Words = codes "words: not a command of stdraw\n"
-line_of TooManyBytes = numbered (codes "limit: more than ") (pos MOST_BYTES) (codes " bytes\n")
+line_of TooManyBytes = too_long_line MOST_BYTES
 line_of (Gml fault) = gml_line fault
 line_of (Shape fault) = shape_line fault
 line_of (NotSt why) = not_st_line why
 line_of (Path fault) = path_line fault
 line_of (UnknownVertex name) = numbered (codes "unknown vertex: ") name (codes "\n")
+line_of TooLongDrawing = too_long_line MOST_DRAWING_BYTES
+line_of (Eps line) = placed (codes "eps: bad line ") line
+line_of (NotClean fault) = fault_line fault
+line_of (NoOrientation why) = orientation_line why
 
 abbrev pub stop_line : Stop → List ℕ
 stop_line (stop.Refused refusal) = line_of refusal

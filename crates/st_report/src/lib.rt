@@ -7,5 +7,7 @@
 mod stop;
 mod telling;
 
-pub use stop::{BadPath, NameList, NotSt, Refusal, Status, Stop};
+pub use stop::{
+    BadPath, MOST_DRAWING_BYTES, NameList, NoOrientation, NotSt, Refusal, Status, Stop,
+};
 pub use telling::report;

@@ -5,8 +5,12 @@ ghost use Rattle.st_report.specs.Lines.{code_of, status_of, stop_status};
 use gml_core::GmlFault;
 use st_ids::NoMemory;
 use st_input::ShapeFault;
+use st_shape::Fault;
 use std::alloc::Global;
 use std::marker::Model;
+
+/// The greatest number of bytes of a drawing that is read. It holds every text that `draw` can write.
+pub const MOST_DRAWING_BYTES: usize = 268_435_456;
 
 /// How a run ended. Each status has a number, which the program ends with.
 #[derive(Clone, Copy, Debug, PartialEq, Eq)]
@@ -163,6 +167,21 @@ pub enum BadPath {
     Crossing { path: u32, other: u32, vertex: i64 },
 }
 
+/// Why the graph of a file has no orientation with these poles, in the names of the file. Some causes are those of
+/// `NotSt`.
+#[derive(Clone, Copy, Debug, PartialEq, Eq)]
+pub enum NoOrientation {
+    /// One vertex is to be both poles.
+    OnePole,
+    /// The edge is a loop. It is the first one.
+    Loop { edge: i64 },
+    /// No undirected walk joins the vertex to the source. It is the first such vertex.
+    Apart { vertex: i64 },
+    /// Each undirected walk from `apart` to a pole goes through `cut`. It is the first such `cut`, and for it the first
+    /// such `apart`.
+    Cut { cut: i64, apart: i64 },
+}
+
 /// What words and bytes answer in place of an output.
 #[derive(Debug, Drop)]
 pub enum Refusal {
@@ -180,6 +199,14 @@ pub enum Refusal {
     Path(BadPath),
     /// The first name in the words that is the name of no vertex.
     UnknownVertex(i64),
+    /// The file to check has more bytes than the limit of drawings.
+    TooLongDrawing,
+    /// The bytes are no EPS text of the dialect: the first bad line, from 1.
+    Eps(u32),
+    /// The drawing is not clean: its first fault, by items from 0.
+    NotClean(Fault),
+    /// The graph has no orientation with these poles.
+    NoOrientation(NoOrientation),
 }
 
 impl Refusal {
@@ -197,6 +224,10 @@ impl Refusal {
             Refusal::NotSt(_) => Status::NotSt,
             Refusal::Path(_) => Status::Path,
             Refusal::UnknownVertex(_) => Status::UnknownVertex,
+            Refusal::TooLongDrawing => Status::Limit,
+            Refusal::Eps(_) => Status::Eps,
+            Refusal::NotClean(_) => Status::NotClean,
+            Refusal::NoOrientation(_) => Status::NoOrientation,
         }
     }
 }

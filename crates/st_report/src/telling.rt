@@ -5,15 +5,16 @@
 ghost use Rattle.std.specs.Prelude.{◌≡◌, ◌++◌, OnOk, IsTrue};
 ghost use Rattle.st_port.specs.Faults.{GoesOn};
 ghost use Rattle.st_port.specs.Writes.{Writes};
-ghost use Rattle.st_report.specs.Lines.{gml_line, shape_line, names_line, several_line, limit_line, faces_line, cycle_line, not_st_line, path_line, line_of, stop_line, stop_status};
+ghost use Rattle.st_report.specs.Lines.{gml_line, shape_line, names_line, several_line, limit_line, faces_line, cycle_line, not_st_line, path_line, fault_line, orientation_line, too_long_line, line_of, stop_line, stop_status};
 ghost use Rattle.st_report.specs.Telling.{Tells};
 
-use crate::stop::{BadPath, NotSt, Refusal, Status, Stop};
+use crate::stop::{BadPath, MOST_DRAWING_BYTES, NoOrientation, NotSt, Refusal, Status, Stop};
 use gml_core::GmlFault;
 use itoa::{Buffer, Integer};
 use st_ids::limits::{MOST_BYTES, MOST_EDGES, MOST_VERTICES};
 use st_input::ShapeFault;
 use st_port::{Failed, Sink, write_all};
+use st_shape::Fault;
 
 // Writes one text and then another.
 fn write_two<K: Sink>(sink: &mut K, first: &[u8], second: &[u8]) -> Result<(), Failed>
@@ -236,18 +237,72 @@ fn write_path<D: Sink>(diag: &mut D, fault: BadPath) -> Result<(), Failed>
     }
 }
 
+// Writes the line of a fault of a drawing.
+fn write_fault<D: Sink>(diag: &mut D, fault: Fault) -> Result<(), Failed>
+    ensures { Writes (D.state diag.old) (D.state diag.new) result (fault_line fault) }
+{
+    match fault {
+        Fault::Alone { item } => write_number(diag, b"not clean: item ", item, b"\n"),
+        Fault::Pair { first, second } => write_numbers(
+            diag,
+            b"not clean: items ",
+            first,
+            b" and ",
+            second,
+            b"\n",
+        ),
+        Fault::Area => write_all(diag, b"not clean: area\n"),
+    }
+}
+
+// Writes the line of a graph without an orientation.
+fn write_orientation<D: Sink>(diag: &mut D, why: NoOrientation) -> Result<(), Failed>
+    ensures { Writes (D.state diag.old) (D.state diag.new) result (orientation_line why) }
+{
+    match why {
+        NoOrientation::OnePole => {
+            write_all(diag, b"no orientation: one vertex for both poles\n")
+        }
+        NoOrientation::Loop { edge } => {
+            write_number(diag, b"no orientation: edge ", edge, b" is a loop\n")
+        }
+        NoOrientation::Apart { vertex } => {
+            write_number(diag, b"no orientation: vertex ", vertex, b" is apart\n")
+        }
+        NoOrientation::Cut { cut, apart } => write_numbers(
+            diag,
+            b"no orientation: vertex ",
+            cut,
+            b" cuts off vertex ",
+            apart,
+            b"\n",
+        ),
+    }
+}
+
+// Writes the line of a file with more bytes than this limit.
+fn write_too_long<D: Sink>(diag: &mut D, most: usize) -> Result<(), Failed>
+    ensures { Writes (D.state diag.old) (D.state diag.new) result (too_long_line most) }
+{
+    write_number(diag, b"limit: more than ", most, b" bytes\n")
+}
+
 // Writes the line of a refusal.
 fn write_refusal<D: Sink>(diag: &mut D, refusal: &Refusal) -> Result<(), Failed>
     ensures { Writes (D.state diag.old) (D.state diag.new) result (line_of refusal.now) }
 {
     match refusal {
         Refusal::Words => write_all(diag, b"words: not a command of stdraw\n"),
-        Refusal::TooManyBytes => write_number(diag, b"limit: more than ", MOST_BYTES, b" bytes\n"),
+        Refusal::TooManyBytes => write_too_long(diag, MOST_BYTES),
         Refusal::Gml(fault) => write_gml(diag, fault),
         Refusal::Shape(fault) => write_shape(diag, fault),
         Refusal::NotSt(why) => write_not_st(diag, why),
         Refusal::Path(fault) => write_path(diag, *fault),
         Refusal::UnknownVertex(name) => write_number(diag, b"unknown vertex: ", *name, b"\n"),
+        Refusal::TooLongDrawing => write_too_long(diag, MOST_DRAWING_BYTES),
+        Refusal::Eps(line) => write_number(diag, b"eps: bad line ", *line, b"\n"),
+        Refusal::NotClean(fault) => write_fault(diag, *fault),
+        Refusal::NoOrientation(why) => write_orientation(diag, *why),
     }
 }
 

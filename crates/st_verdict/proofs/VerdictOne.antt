@@ -1,15 +1,14 @@
 -- A graph is found to be a planar st-graph in at most one way, or refused for at most one reason: where the tests on its
 -- digraph have one answer, as a law of st_test says.
-use Rattle.std.proofs.Common.{◌≡◌, ◌≢◌, ℕ, ◌+◌, ◌<◌, ◌⊎◌, ◌↔◌, inl, inr, Bool, IsTrue, refl, sym, ap, ◌∙◌, subst}
+use Rattle.std.proofs.Common.{◌≡◌, ◌≢◌, ℕ, ◌+◌, ◌⊎◌, ◌↔◌, inl, inr, Bool, IsTrue, sym, ap, ◌∙◌, subst}
 use Rattle.std.specs.Prelude.{Result, Ok, Err}
 use Rattle.std.proofs.lemmas.Bool.{cases_order}
 use Rattle.st_ids.specs.declared.ids.VertexId.{VertexId}
 use Rattle.st_map.specs.Embedded.{Embedded, Touches, edges, faces}
-use Rattle.st_map.specs.Orders.{IsOrderAt, order_at}
 use Rattle.st_map.specs.Fault.{IsMapFault}
 use Rattle.st_map.specs.declared.orders.MapFault.TheVariants as map_fault
 use Rattle.st_test.specs.Planar.{IsPlanarSt, StValue}
-use Rattle.st_test.specs.PolesAnswer.{IsFirstFault, OnePolesAnswer}
+use Rattle.st_test.specs.PolesAnswer.{OnePolesAnswer}
 use Rattle.st_test.specs.Verdict.{IsEmbedFault}
 use Rattle.st_test.specs.declared.digraph_fault.Poles.{Poles}
 use Rattle.st_test.specs.declared.digraph_fault.DigraphFault.{DigraphFault}
@@ -94,7 +93,7 @@ first_bad_same g u v (below, bad, before) (below', bad', before') = elim (cases_
 map_apart : (g : InputGraph) (m : Embedded) (r : Refusal) → HasMap g (Ok m) → HasMap g (Err r) → ⊥
 map_apart g m r good bad = let (below, wrong, before) = bad.holds in wrong (good.1 bad.fault.0 below)
 
-map_one : (g : InputGraph) → IsOne (HasMap g)
+pub map_one : (g : InputGraph) → IsOne (HasMap g)
 map_one g (Ok m) (Ok l) h k = ok m l (h.0 ∙ sym k.0)
 map_one g (Ok m) (Err s) h k = absurd (map_apart g m s h k)
 map_one g (Err r) (Ok l) h k = absurd (map_apart g l r k h)

@@ -9,4 +9,4 @@ pub mod laws;
 mod verdict;
 
 pub use file::{graph_in, graph_of, tree_of};
-pub use verdict::{accept, name_of_edge, name_of_vertex};
+pub use verdict::{accept, map_of, name_of_edge, name_of_vertex};

@@ -87,8 +87,11 @@ fn poles_of(alloc: Global, spec: &GraphSpec) -> Result<Poles, Stop>
     }
 }
 
-// The rotation map of the graph's orders, or the first vertex whose order lists the wrong edges.
-fn map_of(alloc: Global, spec: &GraphSpec) -> Result<Map, Stop>
+/// The rotation map of the graph's orders, or the first vertex whose order lists the wrong edges.
+///
+/// Errors: `NotSt` with `BadOrder`, `NoMemory`.
+/// Cost: that of `Map::from_orders`.
+pub fn map_of(alloc: Global, spec: &GraphSpec) -> Result<Map, Stop>
     requires { HasNoLoop spec.now.graph }
     ensures ok { IfOk result (λ m. HasMap spec.now (Ok m.graph)) }
     ensures spare { IfOk result (λ m. m.spare ≡ 0) }

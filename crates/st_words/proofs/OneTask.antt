@@ -1,15 +1,16 @@
--- Words ask for at most one task: a command is told by the first letter of its word.
-use Rattle.std.proofs.Common.{◌≡◌, ℕ, suc, ◌+◌, ◌*◌, ◌<◌, ℤ, pos, List, [], ◌∷◌, length, get_or, drop, codes, refl, sym, ap, ◌∙◌, arith}
-use Rattle.st_words.specs.declared.words.Command.{Command}
-use Rattle.st_words.specs.declared.words.Command.TheVariants.{Query, Test, Draw}
+-- Words ask for at most one task: the first word is the task's verb, and each verb has a first letter of its own. A new verb
+-- takes one line in each definition below, and one case of `one_held`.
+use Rattle.std.proofs.Common.{◌≡◌, Bool, true, false, nat_eq, subst, ℕ, suc, ◌+◌, ◌*◌, ◌<◌, ℤ, pos, List, [], ◌∷◌, length, get_or, drop, codes, refl, sym, ap, ◌∙◌, arith}
+use Rattle.st_words.specs.declared.words.Command.TheVariants.{Query, Test, Draw, Lattice}
 use Rattle.st_words.specs.declared.words.DrawForm.{DrawForm}
 use Rattle.st_words.specs.declared.words.DrawForm.TheVariants.{Visibility, Tessellation, Constrained, Polyline, Dominance}
+use Rattle.st_words.specs.declared.words.Operation.TheVariants.{Join, Meet}
 use Rattle.st_words.specs.declared.words.Recipe.{Recipe}
 use Rattle.st_words.specs.declared.words.Spot.{Spot}
 use Rattle.st_words.specs.declared.words.Spot.TheVariants.{Left, Middle, Right}
 use Rattle.st_words.specs.declared.words.Task.{Task}
-use Rattle.st_words.specs.declared.words.Task.TheVariants.{File, Gen, Bench}
-use Rattle.st_words.specs.Words.{IsName, AreNames, form_words, AreForm, IsRecipe, IsCommand, IsTask, HasOneTask}
+use Rattle.st_words.specs.declared.words.Task.TheVariants.{File, Check, Orient, Gen, Bench}
+use Rattle.st_words.specs.Words.{IsName, AreNames, form_words, AreForm, IsRecipe, IsTask, HasOneTask}
 
 pair_same : (p q : ℤ × ℤ) → p.0 ≡ q.0 → p.1 ≡ q.1 → p ≡ q
 pair_same p q e f = ap (λ (z : ℤ). let r : ℤ × ℤ = (z, p.1) in r) e ∙ ap (λ (z : ℤ). let r : ℤ × ℤ = (q.0, z) in r) f
@@ -113,78 +114,159 @@ same_form words f f' h k =
     let w : form_words f ≡ form_words f' = sym h ∙ k in
     by_letters f f' w (sym (form_first f) ∙ ap first_letter w ∙ form_first f')
 
--- the first letter of the word of a command, and of a task
-command_letter : Command → ℕ
-command_letter Test = 116
-command_letter (Draw form) = 100
-command_letter (Query pairs) = 113
-
-task_letter : Task → ℕ
-task_letter (File command) = command_letter command
-task_letter (Gen r) = 103
-task_letter (Bench r form) = 98
-
-of_word : (word name : List ℕ) → word ≡ name → get_or word 0 0 ≡ get_or name 0 0
-of_word word name e = ap (λ (z : List ℕ). get_or z 0 0) e
-
-command_first : (words : List (List ℕ)) (c : Command) → IsCommand words c → first_letter words ≡ command_letter c
-unfolding first_letter command_letter
-command_first [] c h = absurd h
-command_first (name ∷ []) Test h = of_word name (codes "test") h
-command_first (name ∷ word ∷ words) Test h = absurd h
-command_first (name ∷ words) (Draw form) h = of_word name (codes "draw") h.0
-command_first (name ∷ words) (Query pairs) h = of_word name (codes "query") h.0
-
-task_first : (words : List (List ℕ)) (t : Task) → IsTask words t → first_letter words ≡ task_letter t
-unfolding first_letter task_letter
-task_first words (File c) h = command_first words c h
-task_first words (Gen r) h = of_word (get_or words 0 []) (codes "gen") h.1
-task_first words (Bench r form) h = of_word (get_or words 0 []) (codes "bench") h.0
-
--- ---- the same letter, the same task
-same_command : (words : List (List ℕ)) (c d : Command) → command_letter c ≡ command_letter d → IsCommand words c → IsCommand words d → c ≡ d
-unfolding command_letter
-same_command [] c d e h k = absurd h
-same_command (name ∷ words) Test Test e h k = refl
-same_command (name ∷ words) Test (Draw f) e h k = absurd (omega (arith, e))
-same_command (name ∷ words) Test (Query ps) e h k = absurd (omega (arith, e))
-same_command (name ∷ words) (Draw f) Test e h k = absurd (omega (arith, e))
-same_command (name ∷ words) (Draw f) (Draw f') e h k = ap (λ z. Draw z) (same_form words f f' h.1 k.1)
-same_command (name ∷ words) (Draw f) (Query ps) e h k = absurd (omega (arith, e))
-same_command (name ∷ words) (Query ps) Test e h k = absurd (omega (arith, e))
-same_command (name ∷ words) (Query ps) (Draw f) e h k = absurd (omega (arith, e))
-same_command (name ∷ words) (Query ps) (Query qs) e h k = ap (λ (z : List (ℤ × ℤ)). Query z) (same_names words ps qs h.3 k.3)
-
 same_recipe : (a b : List ℕ) (r r' : Recipe) → IsRecipe a b r → IsRecipe a b r' → r ≡ r'
 same_recipe a b r r' h k =
     ap (λ (z : ℕ). let x : Recipe = record { vertices = z; seed = r.seed } in x) (sym h.vertices.value ∙ k.vertices.value)
     ∙ ap (λ (z : ℕ). let x : Recipe = record { vertices = r'.vertices; seed = z } in x) (sym h.words.value ∙ k.words.value)
 
--- no command on a file has the letter of a generated graph
-no_gen : (c : Command) → command_letter c ≡ 103 → ⊥
-unfolding command_letter
-no_gen Test e = omega (arith, e)
-no_gen (Draw f) e = omega (arith, e)
-no_gen (Query ps) e = omega (arith, e)
+same_two : (words : List (List ℕ)) (p q : ℤ × ℤ) → AreNames words (p ∷ []) → AreNames words (q ∷ []) → p ≡ q
+same_two words p q h k = ap (λ (zs : List (ℤ × ℤ)). get_or zs 0 p) (same_names words (p ∷ []) (q ∷ []) h k)
 
-no_bench : (c : Command) → command_letter c ≡ 98 → ⊥
-unfolding command_letter
-no_bench Test e = omega (arith, e)
-no_bench (Draw f) e = omega (arith, e)
-no_bench (Query ps) e = omega (arith, e)
+-- ---- a verb, and what is said with it
+data Verb : Type 0 where
+  test : Verb
+  draw : Verb
+  query : Verb
+  join : Verb
+  meet : Verb
+  check : Verb
+  orient : Verb
+  gen : Verb
+  bench : Verb
 
-same_task : (words : List (List ℕ)) (t u : Task) → task_letter t ≡ task_letter u → IsTask words t → IsTask words u → t ≡ u
-unfolding task_letter
-same_task words (File c) (File d) e h k = ap (λ z. File z) (same_command words c d e h k)
-same_task words (File c) (Gen r) e h k = absurd (no_gen c e)
-same_task words (File c) (Bench r f) e h k = absurd (no_bench c e)
-same_task words (Gen r) (File d) e h k = absurd (no_gen d (sym e))
-same_task words (Gen r) (Gen r') e h k = ap (λ z. Gen z) (same_recipe (get_or words 1 []) (get_or words 2 []) r r' h.2 k.2)
-same_task words (Gen r) (Bench r' f) e h k = absurd (omega (arith, e))
-same_task words (Bench r f) (File d) e h k = absurd (no_bench d (sym e))
-same_task words (Bench r f) (Gen r') e h k = absurd (omega (arith, e))
-same_task words (Bench r f) (Bench r' f') e h k =
-    ap (λ z. Bench z f) (same_recipe (get_or words 1 []) (get_or words 2 []) r r' h.1 k.1) ∙ ap (λ z. Bench r' z) (same_form (drop 3 words) f f' h.2 k.2)
+Held : Verb → Type 0
+Held test = Unit {0}
+Held draw = DrawForm
+Held query = List (ℤ × ℤ)
+Held join = ℤ × ℤ
+Held meet = ℤ × ℤ
+Held check = Unit {0}
+Held orient = ℤ × ℤ
+Held gen = Recipe
+Held bench = Recipe × DrawForm
+
+task : (v : Verb) → Held v → Task
+unfolding Held
+task test h = File Test
+task draw form = File (Draw form)
+task query pairs = File (Query pairs)
+task join p = File (Lattice Join p.0 p.1)
+task meet p = File (Lattice Meet p.0 p.1)
+task check h = Check
+task orient p = Orient p.0 p.1
+task gen r = Gen r
+task bench h = Bench h.0 h.1
+
+verb : Task → Verb
+verb (File Test) = test
+verb (File (Draw form)) = draw
+verb (File (Query pairs)) = query
+verb (File (Lattice Join from to)) = join
+verb (File (Lattice Meet from to)) = meet
+verb Check = check
+verb (Orient from to) = orient
+verb (Gen r) = gen
+verb (Bench r form) = bench
+
+held : (t : Task) → Held (verb t)
+unfolding Held verb
+held (File Test) = tt
+held (File (Draw form)) = form
+held (File (Query pairs)) = pairs
+held (File (Lattice Join from to)) = (from, to)
+held (File (Lattice Meet from to)) = (from, to)
+held Check = tt
+held (Orient from to) = (from, to)
+held (Gen r) = r
+held (Bench r form) = (r, form)
+
+whole : (t : Task) → task (verb t) (held t) ≡ t
+unfolding Held verb held task
+whole (File Test) = refl
+whole (File (Draw form)) = refl
+whole (File (Query pairs)) = refl
+whole (File (Lattice Join from to)) = refl
+whole (File (Lattice Meet from to)) = refl
+whole Check = refl
+whole (Orient from to) = refl
+whole (Gen r) = refl
+whole (Bench r form) = refl
+
+-- ---- the first letter tells the verb
+letter : Verb → ℕ
+letter test = 116
+letter draw = 100
+letter query = 113
+letter join = 106
+letter meet = 109
+letter check = 99
+letter orient = 111
+letter gen = 103
+letter bench = 98
+
+choose : Bool → Verb → Verb → Verb
+choose true v w = v
+choose false v w = w
+
+verb_by : ℕ → Verb
+verb_by l =
+    choose (nat_eq l 116) test (choose (nat_eq l 100) draw (choose (nat_eq l 113) query (choose (nat_eq l 106) join
+    (choose (nat_eq l 109) meet (choose (nat_eq l 99) check (choose (nat_eq l 103) gen (choose (nat_eq l 111) orient bench)))))))
+
+by_letter : (v : Verb) → verb_by (letter v) ≡ v
+unfolding letter choose verb_by
+by_letter test = refl
+by_letter draw = refl
+by_letter query = refl
+by_letter join = refl
+by_letter meet = refl
+by_letter check = refl
+by_letter orient = refl
+by_letter gen = refl
+by_letter bench = refl
+
+of_word : (word name : List ℕ) → word ≡ name → get_or word 0 0 ≡ get_or name 0 0
+of_word word name e = ap (λ (z : List ℕ). get_or z 0 0) e
+
+said : (words : List (List ℕ)) (t : Task) → IsTask words t → first_letter words ≡ letter (verb t)
+unfolding first_letter verb letter
+said [] (File c) h = absurd h
+said (name ∷ words) (File Test) h = of_word name (codes "test") h.0
+said (name ∷ words) (File (Draw form)) h = of_word name (codes "draw") h.0
+said (name ∷ words) (File (Query pairs)) h = of_word name (codes "query") h.0
+said (name ∷ words) (File (Lattice Join from to)) h = of_word name (codes "join") h.0
+said (name ∷ words) (File (Lattice Meet from to)) h = of_word name (codes "meet") h.0
+said words Check h = ap (λ (z : List (List ℕ)). get_or (get_or z 0 []) 0 0) h
+said [] (Orient from to) h = absurd h
+said (name ∷ words) (Orient from to) h = of_word name (codes "orient") h.0
+said words (Gen r) h = of_word (get_or words 0 []) (codes "gen") h.1
+said words (Bench r form) h = of_word (get_or words 0 []) (codes "bench") h.0
+
+-- ---- with one verb, words say one thing
+one_held : (words : List (List ℕ)) (v : Verb) (a b : Held v) → IsTask words (task v a) → IsTask words (task v b) → task v a ≡ task v b
+unfolding Held task
+one_held words test a b h k = refl
+one_held [] draw a b h k = absurd h
+one_held (name ∷ words) draw a b h k = ap (λ z. File (Draw z)) (same_form words a b h.1 k.1)
+one_held [] query a b h k = absurd h
+one_held (name ∷ words) query a b h k = ap (λ (z : List (ℤ × ℤ)). File (Query z)) (same_names words a b h.1.2 k.1.2)
+one_held [] join a b h k = absurd h
+one_held (name ∷ words) join a b h k = ap (λ (z : ℤ × ℤ). File (Lattice Join z.0 z.1)) (same_two words (a.0, a.1) (b.0, b.1) h.1 k.1)
+one_held [] meet a b h k = absurd h
+one_held (name ∷ words) meet a b h k = ap (λ (z : ℤ × ℤ). File (Lattice Meet z.0 z.1)) (same_two words (a.0, a.1) (b.0, b.1) h.1 k.1)
+one_held words check a b h k = refl
+one_held [] orient a b h k = absurd h
+one_held (name ∷ words) orient a b h k = ap (λ (z : ℤ × ℤ). Orient z.0 z.1) (same_two words (a.0, a.1) (b.0, b.1) h.1 k.1)
+one_held words gen a b h k = ap (λ z. Gen z) (same_recipe (get_or words 1 []) (get_or words 2 []) a b h.2 k.2)
+one_held words bench a b h k =
+    ap (λ z. Bench z a.1) (same_recipe (get_or words 1 []) (get_or words 2 []) a.0 b.0 h.1 k.1) ∙ ap (λ z. Bench b.0 z) (same_form (drop 3 words) a.1 b.1 h.2 k.2)
+
+by_verbs : (words : List (List ℕ)) (v w : Verb) (a : Held v) → v ≡ w → IsTask words (task v a) → (b : Held w) → IsTask words (task w b) → task v a ≡ task w b
+by_verbs words v w a e h = subst (λ (z : Verb). (b : Held z) → IsTask words (task z b) → task v a ≡ task z b) e (λ b k. one_held words v a b h k)
 
 pub one_task_law : HasOneTask
-one_task_law words t u h k = same_task words t u (sym (task_first words t h) ∙ task_first words u k) h k
+one_task_law words t u h k =
+    let e : verb t ≡ verb u = sym (by_letter (verb t)) ∙ ap verb_by (sym (said words t h) ∙ said words u k) ∙ by_letter (verb u) in
+    let h' : IsTask words (task (verb t) (held t)) = subst (IsTask words) (sym (whole t)) h in
+    let k' : IsTask words (task (verb u) (held u)) = subst (IsTask words) (sym (whole u)) k in
+    sym (whole t) ∙ by_verbs words (verb t) (verb u) (held t) e h' (held u) k' ∙ whole u

@@ -1,15 +1,15 @@
 -- The words of a query, read two by two, and those of a generated graph.
-use Rattle.std.proofs.Common.{◌≡◌, ℕ, ◌+◌, ◌*◌, ◌<◌, ◌≤◌, ℤ, pos, inl, inr, List, [], ◌∷◌, ◌++◌, length, get_or, map, take, drop, ◌-◌, codes, sym, ap, ◌∙◌, subst, arith}
+use Rattle.std.proofs.Common.{◌≡◌, refl, ℕ, ◌+◌, ◌*◌, ◌<◌, ◌≤◌, ℤ, pos, inl, inr, List, [], ◌∷◌, ◌++◌, length, get_or, map, take, drop, ◌-◌, codes, sym, ap, ◌∙◌, subst, arith}
 use Rattle.std.proofs.lemmas.List.{length_push, get_or_push, get_or_append_left, get_or-map, take_all, drop-map, length-drop}
-use Rattle.std.proofs.Math.Seq.{take-length}
 use Rattle.std.proofs.lemmas.Bool.{cases_lt}
 use Rattle.st_words.specs.declared.words.Command.{Command}
-use Rattle.st_words.specs.declared.words.Command.TheVariants.{Query, Test, Draw}
-use Rattle.st_words.specs.declared.words.DrawForm.{DrawForm}
+use Rattle.st_words.specs.declared.words.Command.TheVariants.{Query, Test, Draw, Lattice}
+use Rattle.st_words.specs.declared.words.Operation.{Operation}
+use Rattle.st_words.specs.declared.words.Operation.TheVariants.{Join, Meet}
 use Rattle.st_words.specs.declared.words.Recipe.{Recipe}
 use Rattle.st_words.specs.declared.words.Task.{Task}
-use Rattle.st_words.specs.declared.words.Task.TheVariants.{File, Gen, Bench}
-use Rattle.st_words.specs.Words.{IsName, AreNames, AreForm, IsRecipe, AreRecipe, IsCommand, IsTask, IsFileless}
+use Rattle.st_words.specs.declared.words.Task.TheVariants.{File, Check, Orient, Gen, Bench}
+use Rattle.st_words.specs.Words.{IsName, AreNames, operation_word, IsRecipe, AreRecipe, IsCommand, IsTask, IsFileless}
 
 -- the first i pairs of words write the names of the pairs
 pub record AreFirstNames (words : List (List ℕ)) (i : ℕ) (pairs : List (ℤ × ℤ)) : Type 0 where
@@ -58,38 +58,63 @@ no_second words i l bad pairs h = bad _ (h.second i (omega (arith, h.size)))
 pub image_at : {X Y : Type 0} (f : X → Y) (xs : List X) (j : ℕ) (x : X) (d : Y) → j < length xs → x ≡ get_or xs j x → f x ≡ get_or (map f xs) j d
 image_at f xs j x d l is = ap f is ∙ sym (get_or-map f xs j x d l)
 
--- a list with an item is its first and the rest, as a pattern has it
-pub first_and_rest : {X : Type 0} (xs : List X) (x : X) → 1 ≤ length xs → x ≡ get_or xs 0 x → xs ≡ x ∷ take (length xs - 1) (drop 1 xs)
-first_and_rest [] x l is = absurd (omega arith)
-first_and_rest {X} (y ∷ ys) x l is =
-    let n : length (y ∷ ys) - 1 ≡ length ys = omega arith in
-    let rest : take (length (y ∷ ys) - 1) ys ≡ ys = ap (λ k. take k ys) n ∙ take-length ys in
-    ap (λ (z : X). z ∷ ys) (sym is) ∙ ap (λ (zs : List X). x ∷ zs) (sym rest)
+-- ---- the first word and the rest
+command_letter : Command → ℕ
+command_letter Test = 116
+command_letter (Draw form) = 100
+command_letter (Query pairs) = 113
+command_letter (Lattice Join from to) = 106
+command_letter (Lattice Meet from to) = 109
 
--- the words of a query
-pub query_words : (words names : List (List ℕ)) (name : List ℕ) (pairs : List (ℤ × ℤ)) → words ≡ name ∷ names → name ≡ codes "query" → 1 ≤ length names → length names ≤ 2000 → AreNames names pairs → IsCommand words (Query pairs)
-query_words words names name pairs is called some few are =
-    subst (λ (w : List (List ℕ)). IsCommand w (Query pairs)) (sym is) (called, omega (arith, are.size), omega (arith, are.size), are)
+of_word : (word name : List ℕ) → word ≡ name → get_or word 0 0 ≡ get_or name 0 0
+of_word word name e = ap (λ (z : List ℕ). get_or z 0 0) e
 
--- the one word of a test
-pub test_words : (words names : List (List ℕ)) (name : List ℕ) → words ≡ name ∷ names → length names ≡ 0 → name ≡ codes "test" → IsCommand words Test
-test_words words [] name is none called = subst (λ (w : List (List ℕ)). IsCommand w Test) (sym is) called
-test_words words (n ∷ names) name is none called = absurd (omega arith)
+by_letter : (name : List ℕ) (rest : List (List ℕ)) (c : Command) → IsCommand (name ∷ rest) c → get_or name 0 0 ≡ command_letter c
+unfolding command_letter
+by_letter name rest Test h = of_word name (codes "test") h.0
+by_letter name rest (Draw form) h = of_word name (codes "draw") h.0
+by_letter name rest (Query pairs) h = of_word name (codes "query") h.0
+by_letter name rest (Lattice Join from to) h = of_word name (codes "join") h.0
+by_letter name rest (Lattice Meet from to) h = of_word name (codes "meet") h.0
 
--- a list with one item
-pub one_item : {X : Type 0} (xs : List X) (x : X) → 1 ≤ length xs → length xs < 2 → x ≡ get_or xs 0 x → xs ≡ x ∷ []
-one_item [] x l m is = absurd (omega arith)
-one_item {X} (y ∷ []) x l m is = ap (λ (z : X). z ∷ []) (sym is)
-one_item (y ∷ z ∷ ys) x l m is = absurd (omega arith)
+-- the word of a bound, with a rest that isn't two names, is no command
+module _ (name : List ℕ) (rest : List (List ℕ)) where
+  pub only_bound : (o : Operation) → name ≡ operation_word o → ((u v : ℤ) → AreNames rest ((u, v) ∷ []) → ⊥) → (c : Command) → IsCommand (name ∷ rest) c → ⊥
+  unfolding command_letter
+  only_bound o is none (Lattice o' u v) h = none u v h.1
+  only_bound Join is none Test h = omega (arith, of_word name (codes "join") is, by_letter name rest Test h)
+  only_bound Join is none (Draw form) h = omega (arith, of_word name (codes "join") is, by_letter name rest (Draw form) h)
+  only_bound Join is none (Query pairs) h = omega (arith, of_word name (codes "join") is, by_letter name rest (Query pairs) h)
+  only_bound Meet is none Test h = omega (arith, of_word name (codes "meet") is, by_letter name rest Test h)
+  only_bound Meet is none (Draw form) h = omega (arith, of_word name (codes "meet") is, by_letter name rest (Draw form) h)
+  only_bound Meet is none (Query pairs) h = omega (arith, of_word name (codes "meet") is, by_letter name rest (Query pairs) h)
 
--- the words of a drawing
-pub draw_words : (words names : List (List ℕ)) (name : List ℕ) (form : DrawForm) → words ≡ name ∷ names → name ≡ codes "draw" → AreForm names form → IsCommand words (Draw form)
-draw_words words names name form is called are = subst (λ (w : List (List ℕ)). IsCommand w (Draw form)) (sym is) (called, are)
+-- no word
+pub none_written : (words : List (List ℕ)) → length words ≡ 0 → words ≡ []
+none_written [] n = refl
+none_written (w ∷ words) n = absurd (omega (arith, n))
+
+-- a word alone
+pub one_word : (words : List (List ℕ)) (a b : List ℕ) → length words ≡ 1 → a ≡ get_or words 0 [] → a ≡ b → words ≡ b ∷ []
+one_word [] a b n is same = absurd (omega (arith, n))
+one_word (w ∷ []) a b n is same = ap (λ (z : List ℕ). z ∷ []) (sym is ∙ same)
+one_word (w ∷ x ∷ words) a b n is same = absurd (omega (arith, n))
+
+pub its_word : (words : List (List ℕ)) (a b : List ℕ) → a ≡ get_or words 0 [] → words ≡ b ∷ [] → a ≡ b
+its_word words a b is one = is ∙ ap (λ (z : List (List ℕ)). get_or z 0 []) one
+
+-- two words that write two names
+pub two_written : (words : List (List ℕ)) (a b : List ℕ) (u v : ℤ) → length words ≡ 2 → a ≡ get_or words 0 [] → b ≡ get_or words 1 [] → IsName a u → IsName b v → AreNames words ((u, v) ∷ [])
+two_written words a b u v n at_0 at_1 h k =
+    let first : AreFirstNames words 1 ([] ++ (u, v) ∷ []) = names_push words 0 [] u v (no_names words) (subst (λ w. IsName w u) at_0 h) (subst (λ w. IsName w v) at_1 k) in
+    names_whole words 1 ((u, v) ∷ []) first (omega (arith, n))
 
 -- ---- a generated graph
 -- words in which two places write no recipe ask for no generated graph
 pub no_recipe : (words : List (List ℕ)) → ((r : Recipe) → AreRecipe words r → ⊥) → (task : Task) → IsFileless task → IsTask words task → ⊥
 no_recipe words none (File command) l h = l
+no_recipe words none Check l h = l
+no_recipe words none (Orient from to) l h = l
 no_recipe words none (Gen r) l h = none r h.2
 no_recipe words none (Bench r form) l h = none r h.1
 
@@ -105,14 +130,23 @@ module _ {X : Type 0} (f : X → List ℕ) (words : List X) (a b : X) (there : 3
       subst (λ z. IsRecipe z (f b) r) (sym (image_at f words 1 a [] (omega arith) first))
       (subst (λ z. IsRecipe (get_or (map f words) 1 []) z r) (sym (image_at f words 2 b [] (omega arith) second)) h)
 
--- words that ask neither for a generated graph nor for a command on a file ask for nothing
-pub no_task : (words : List (List ℕ)) → ((task : Task) → IsFileless task → IsTask words task → ⊥) → ((command : Command) → IsCommand words command → ⊥) → (task : Task) → IsTask words task → ⊥
-no_task words a b (File command) h = b command h
-no_task words a b (Gen r) h = a (Gen r) tt h
-no_task words a b (Bench r form) h = a (Bench r form) tt h
+-- words that ask neither for a generated graph, nor for a check, nor for a command on a file ask for nothing
+pub no_task : (words : List (List ℕ)) → ((task : Task) → IsFileless task → IsTask words task → ⊥) → (IsTask words Check → ⊥) → ((from to : ℤ) → IsTask words (Orient from to) → ⊥) → ((command : Command) → IsCommand words command → ⊥) → (task : Task) → IsTask words task → ⊥
+no_task words a b o d (File command) h = d command h
+no_task words a b o d Check h = b h
+no_task words a b o d (Orient from to) h = o from to h
+no_task words a b o d (Gen r) h = a (Gen r) tt h
+no_task words a b o d (Bench r form) h = a (Bench r form) tt h
 
 -- the words behind the first three, as code has them
 pub behind_three : {X : Type 0} (f : X → List ℕ) (words : List X) → map f (take (length words - 3) (drop 3 words)) ≡ drop 3 (map f words)
 behind_three f words =
     let all : take (length words - 3) (drop 3 words) ≡ drop 3 words = take_all (length words - 3) (drop 3 words) (omega (arith, length-drop 3 words)) in
     ap (map f) all ∙ sym (drop-map f 3 words)
+
+-- the first word and those behind it, as code has them
+pub first_and_rest : {X : Type 0} (f : X → List ℕ) (words : List X) (w : X) → 1 ≤ length words → w ≡ get_or words 0 w → map f words ≡ f w ∷ map f (take (length words - 1) (drop 1 words))
+first_and_rest f [] w l is = absurd (omega arith)
+first_and_rest f (x ∷ words) w l is =
+    let n : length (x ∷ words) - 1 ≡ length words = omega arith in
+    ap (λ z. f z ∷ map f words) (sym is) ∙ ap (λ z. f w ∷ map f z) (sym (take_all (length (x ∷ words) - 1) words (omega (arith, n))))

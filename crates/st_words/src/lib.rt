@@ -7,4 +7,4 @@
 pub mod laws;
 mod words;
 
-pub use words::{Command, DrawForm, Pairs, Recipe, Spot, Task, command_of, task_of};
+pub use words::{Command, DrawForm, Operation, Pairs, Recipe, Spot, Task, command_of, task_of};

@@ -1,7 +1,9 @@
 //! The words of a command line, and the command that they ask for.
-ghost use Rattle.std.specs.Prelude.{◌≡◌, ◌≢◌, ℕ, ℤ, ◌+◌, ◌<◌, ◌≤◌, ◌^◌, ◌∷◌, ◌++◌, [], List, length, map, IfOk, OnOk, OnErr, IfSome, IfNone, MatchOption, Ok};
+ghost use Rattle.std.specs.Prelude.{◌≡◌, ◌≢◌, ℕ, ℤ, ◌+◌, ◌<◌, ◌≤◌, ◌^◌, ◌∷◌, ◌++◌, [], List, length, map, IfOk, OnOk, OnErr, IfSome, IfNone, IsTrue, ◌↔◌, MatchOption, Ok};
 ghost use Rattle.std.specs.String.{string_bytes};
-ghost use Rattle.st_words.specs.Words.{IsName, IsNumber, AreNames, AreForm, AreRecipe, IsRecipe, IsCommand, IsTask, IsFileless, most_pairs, spot_word, form_words};
+ghost use Rattle.st_words.specs.declared.words.Command.TheVariants.{Query};
+ghost use Rattle.st_words.specs.declared.words.Task.TheVariants.{Check, Orient};
+ghost use Rattle.st_words.specs.Words.{IsName, IsNumber, AreNames, AreForm, AreArguments, IsRecipe, IsCommand, IsTask, IsFileless, AskOrient, operation_word, spot_word, form_words};
 
 use st_ids::NoMemory;
 use st_ids::limits::{MOST_PAIRS, MOST_VERTICES};
@@ -75,6 +77,15 @@ pub enum DrawForm {
     Dominance,
 }
 
+/// Which bound of two vertices.
+#[derive(Clone, Copy)]
+pub enum Operation {
+    /// The least vertex that both reach.
+    Join,
+    /// The greatest vertex that reaches both.
+    Meet,
+}
+
 /// What is asked of the graph of a file.
 #[derive(Drop)]
 pub enum Command {
@@ -84,6 +95,8 @@ pub enum Command {
     Test,
     /// A drawing of the graph.
     Draw(DrawForm),
+    /// The bound of two vertices.
+    Lattice(Operation, i64, i64),
 }
 
 /// Which graph is generated: its number of vertices, and where its random words begin.
@@ -98,6 +111,10 @@ pub struct Recipe {
 pub enum Task {
     /// A command on the graph of a file.
     File(Command),
+    /// Whether the drawing of a file is clean.
+    Check,
+    /// An orientation of the graph of a file, with the source and the sink of these names.
+    Orient(i64, i64),
     /// The file of a generated graph.
     Gen(Recipe),
     /// The numbers of a drawing of a generated graph.
@@ -191,30 +208,122 @@ fn form_of(words: &[String]) -> Option<DrawForm>
     }
 }
 
+// The pairs of a query that the words behind its name ask for.
+fn query_of(alloc: Global, rest: &[String]) -> Result<Option<Pairs>, NoMemory>
+    ensures { IfOk result (λ o. MatchOption o ((pairs : List (ℤ × ℤ)) → ¬ AreArguments (map string_bytes rest.now) (Query pairs)) (λ pairs. AreArguments (map string_bytes rest.now) (Query pairs))) }
+{
+    if rest.is_empty() || rest.len() > 2 * MOST_PAIRS {
+        return Ok(None);
+    }
+    pairs_of(alloc, rest)
+}
+
+// The bound that a word names.
+fn operation_of(word: &String) -> Option<Operation>
+    ensures { MatchOption result ((operation : Operation) → string_bytes word.now ≢ operation_word operation) (λ operation. string_bytes word.now ≡ operation_word operation) }
+{
+    if word.as_str() == "join" {
+        return Some(Operation::Join);
+    }
+    if word.as_str() == "meet" {
+        return Some(Operation::Meet);
+    }
+    None
+}
+
+// The two vertex names that the words write.
+fn two_names(words: &[String]) -> Option<(i64, i64)>
+    ensures { MatchOption result ((from to : ℤ) → ¬ AreNames (map string_bytes words.now) ((from, to) ∷ [])) (λ names. AreNames (map string_bytes words.now) (names ∷ [])) }
+{
+    let [from, to] = words else {
+        return None;
+    };
+    let Some(from) = name_of(from) else {
+        return None;
+    };
+    let Some(to) = name_of(to) else {
+        return None;
+    };
+    Some((from, to))
+}
+
+// The command that a word names, with what the words behind it say.
+fn command_by_name(
+    alloc: Global,
+    name: &String,
+    rest: &[String],
+) -> Result<Option<Command>, NoMemory>
+    ensures { IfOk result (λ o. MatchOption o ((command : Command) → ¬ IsCommand (string_bytes name.now ∷ map string_bytes rest.now) command) (λ command. IsCommand (string_bytes name.now ∷ map string_bytes rest.now) command)) }
+{
+    if name.as_str() == "test" {
+        if rest.is_empty() {
+            return Ok(Some(Command::Test));
+        }
+        return Ok(None);
+    }
+    if name.as_str() == "draw" {
+        return match form_of(rest) {
+            Some(form) => Ok(Some(Command::Draw(form))),
+            None => Ok(None),
+        };
+    }
+    if name.as_str() == "query" {
+        return match query_of(alloc, rest)? {
+            Some(pairs) => Ok(Some(Command::Query(pairs))),
+            None => Ok(None),
+        };
+    }
+    let Some(operation) = operation_of(name) else {
+        return Ok(None);
+    };
+    match two_names(rest) {
+        Some((from, to)) => Ok(Some(Command::Lattice(operation, from, to))),
+        None => Ok(None),
+    }
+}
+
 /// The command on a file that the words ask for; `None` where they are no form of one.
 ///
 /// Cost: one pass over the words, one list of pairs.
 pub fn command_of(alloc: Global, words: &[String]) -> Result<Option<Command>, NoMemory>
     ensures { IfOk result (λ o. MatchOption o ((command : Command) → ¬ IsCommand (map string_bytes words.now) command) (λ command. IsCommand (map string_bytes words.now) command)) }
 {
-    let [name, names @ ..] = words else {
-        return Ok(None);
-    };
-    if name.as_str() == "test" && names.is_empty() {
-        return Ok(Some(Command::Test));
+    match words {
+        [name, rest @ ..] => command_by_name(alloc, name, rest),
+        _ => Ok(None),
     }
-    if name.as_str() == "draw" {
-        return match form_of(names) {
-            Some(form) => Ok(Some(Command::Draw(form))),
-            None => Ok(None),
-        };
+}
+
+// Whether the words ask for a check.
+fn asks_for_check(words: &[String]) -> bool
+    ensures { IsTrue result ↔ IsTask (map string_bytes words.now) Check }
+{
+    match words {
+        [word] => word.as_str() == "check",
+        _ => false,
     }
-    if name.as_str() != "query" || names.is_empty() || names.len() > 2 * MOST_PAIRS {
-        return Ok(None);
+}
+
+// The poles of an orientation that a word and the words behind it ask for.
+fn poles_by_name(name: &String, rest: &[String]) -> Option<(i64, i64)>
+    ensures { MatchOption result ((from to : ℤ) → ¬ AskOrient (string_bytes name.now ∷ map string_bytes rest.now) from to) (λ poles. AskOrient (string_bytes name.now ∷ map string_bytes rest.now) poles.0 poles.1) }
+{
+    if name.as_str() != "orient" {
+        return None;
     }
-    match pairs_of(alloc, names)? {
-        Some(pairs) => Ok(Some(Command::Query(pairs))),
-        None => Ok(None),
+    match two_names(rest) {
+        Some((from, to)) => Some((from, to)),
+        None => None,
+    }
+}
+
+// The poles of an orientation that the words ask for.
+fn poles_of(words: &[String]) -> Option<(i64, i64)>
+    ensures { MatchOption result ((from to : ℤ) → ¬ IsTask (map string_bytes words.now) (Orient from to)) (λ poles. IsTask (map string_bytes words.now) (Orient poles.0 poles.1)) }
+{
+    match words {
+        [name, rest @ ..] => poles_by_name(name, rest),
+        _ => None,
     }
 }
 
@@ -274,6 +383,12 @@ fn generated(words: &[String]) -> Option<Task>
 pub fn task_of(alloc: Global, words: &[String]) -> Result<Option<Task>, NoMemory>
     ensures { IfOk result (λ o. MatchOption o ((task : Task) → ¬ IsTask (map string_bytes words.now) task) (λ task. IsTask (map string_bytes words.now) task)) }
 {
+    if asks_for_check(words) {
+        return Ok(Some(Task::Check));
+    }
+    if let Some((from, to)) = poles_of(words) {
+        return Ok(Some(Task::Orient(from, to)));
+    }
     match generated(words) {
         Some(task) => Ok(Some(task)),
         None => match command_of(alloc, words)? {
