@@ -1,10 +1,10 @@
 -- A drawing is written exactly where the file has a planar st-graph, and it is a right one; so it is with the lines of a query.
-use Rattle.std.proofs.Common.{◌≡◌, ◌≢◌, ℕ, ℤ, List, Some, None, refl, sym, ◌∙◌, subst, arith}
+use Rattle.std.proofs.Common.{◌≡◌, ◌≢◌, ℕ, ℤ, List, [], ◌∷◌, Some, None, refl, sym, ◌∙◌, subst, arith}
 use Rattle.std.specs.Prelude.{Result, Ok, Err, IfSome}
 use Rattle.std.specs.declared.option.Option.{Option}
 use Rattle.st_input.specs.InputGraph.{InputGraph, IsConsistent}
 use Rattle.st_port.specs.Faults.{Rose}
-use Rattle.st_port.specs.Streams.{SourceState, SinkState}
+use Rattle.st_port.specs.Streams.{SourceState, SinkState, Gains}
 use Rattle.st_shape.specs.Rules.{Drawing}
 use Rattle.st_sides.specs.Sides.{SidesValue, IsSides}
 use Rattle.st_sides.proofs.MeaningLemmas.{meaning_law}
@@ -20,7 +20,8 @@ use Rattle.stdraw_core.proofs.PolylineLemmas.{long}
 use Rattle.stdraw_core.proofs.DominanceLemmas.{right_dominance}
 use Rattle.stdraw_core.proofs.PathLemmas.{drawn_valid, right_aligned, valid_not_refused}
 use Rattle.st_words.specs.declared.words.Command.{Command}
-use Rattle.st_words.specs.declared.words.Command.TheVariants.{Draw, Query}
+use Rattle.st_words.specs.declared.words.Command.TheVariants.{Draw, Query, Lattice}
+use Rattle.st_words.specs.declared.words.Operation.{Operation}
 use Rattle.st_words.specs.declared.words.DrawForm.{DrawForm}
 use Rattle.st_words.specs.declared.words.DrawForm.TheVariants.{Visibility, Tessellation, Constrained, Polyline, Dominance}
 use Rattle.st_report.specs.declared.stop.Refusal.{Refusal}
@@ -28,16 +29,19 @@ use Rattle.st_report.specs.declared.stop.Status.{Status}
 use Rattle.st_report.specs.declared.stop.Status.TheVariants as status
 use Rattle.stdraw_core.specs.Answer.{Asks, Answers, AnswersGraph, AnswersFile, AnswersTask, IsAnswer}
 use Rattle.stdraw_core.specs.Drawing.{one_each, file_names, IsPictureOf, IsRightPicture, Draws, ShowsFile}
-use Rattle.stdraw_core.specs.Headline.{IsPlanarFile, HeadlineFor, Headline, QueryHeadlineFor, QueryHeadline}
+use Rattle.stdraw_core.specs.Headline.{IsPlanarFile, HeadlineFor, Headline, QueryHeadlineFor, QueryHeadline, LatticeHeadlineFor, LatticeHeadline, CheckHeadlineFor, CheckHeadline}
+use Rattle.stdraw_core.specs.Checked.{AnswersCheck}
+use Rattle.stdraw_core.proofs.CheckLemmas.{clean_given, clean_found}
 use Rattle.stdraw_core.specs.Query.{names_of}
 use Rattle.stdraw_core.specs.Run.{IsTold, IsDone, EndsBy, is_done, is_refused, is_unread, is_cut, no_memory}
 use Rattle.st_verdict.specs.Stages.{goes_on, IsOne}
 use Rattle.stdraw_core.specs.Paths.{AreSidesIn}
 use Rattle.st_verdict.specs.Verdict.{IsAccepted, IsFound}
-use Rattle.st_words.specs.declared.words.Task.TheVariants.{File}
-use Rattle.st_words.specs.Words.{IsCommand}
+use Rattle.st_words.specs.declared.words.Task.TheVariants.{File, Check}
+use Rattle.st_words.specs.Words.{IsCommand, IsTask}
 use Rattle.stdraw_core.proofs.DrawingLemmas.{names_meet}
-use Rattle.stdraw_core.proofs.OneAnswer.{asks_one, known_unknown}
+use Rattle.stdraw_core.proofs.OneAnswer.{asks_one}
+use Rattle.stdraw_core.proofs.QueryLemmas.{known_unknown}
 use Rattle.stdraw_core.proofs.RunLemmas.{refused_not_done}
 use Rattle.st_verdict.specs.File.{IsFew, IsTree, IsGraph, IsGraphIn, IsGraphWithin}
 use Rattle.st_verdict.proofs.Public.{next_says, value_found, found, accepted_one, graph_within_one, consistent}
@@ -169,3 +173,64 @@ pub query_headline : OnePolesAnswer → (words : List (List ℕ)) (src src' : So
     → EndsBy words src src' out out' diag diag' s → QueryHeadline words src src' out out' s
 query_headline same words src src' out out' diag diag' s h pairs bytes is left =
     ending words src src' out out' diag diag' (QueryHeadlineFor pairs bytes out out') (lines_whole same words src src' out out' pairs bytes is left) (no_lines same words src src' out out' pairs bytes is left diag diag') s h
+
+-- ---- the words of a bound
+module _ (same_poles : OnePolesAnswer) (words : List (List ℕ)) (src src' : SourceState) (out out' : SinkState) (op : Operation) (from to : ℤ) (bytes : List ℕ)
+    (is : IsCommand words (Lattice op from to)) (left : src.left ≡ Some bytes) where
+  bound_whole : IsDone words src src' out out' → LatticeHeadlineFor op from to bytes out out' status.Done
+  bound_whole h =
+      let o = output_of (Lattice op from to) bytes h.text (asked (Lattice op from to) words src.left bytes h.ready.bytes is left h.ready.told (Ok h.text) h.ready.answer) in
+      record {
+        answered = λ g st file known. refl;
+        right = λ e. record { g = o.g; st = o.st; file = o.file; out = h.text; lines = o.answers; gains = h.gains };
+        nothing = λ n. absurd (n refl);
+      }
+
+  no_bound : (diag diag' : SinkState) (s : Status) → s ≢ status.Done → out' ≡ out → IsTold words src src' diag diag' s → LatticeHeadlineFor op from to bytes out out' s
+  no_bound diag diag' s other before h =
+      let r = h.refused in
+      let answer = asked (Lattice op from to) words src.left bytes r.bytes is left r.told (Err h.refusal) r.answer in
+      record {
+        answered = λ g st file known.
+            let first = planar_says (Lattice op from to) bytes g st file (accepted_one same_poles g) (Err h.refusal) answer in
+            absurd (known_unknown g (from ∷ to ∷ []) first.fault known first.holds);
+        right = λ e. absurd (other e);
+        nothing = λ n. before;
+      }
+
+pub lattice_headline : OnePolesAnswer → (words : List (List ℕ)) (src src' : SourceState) (out out' diag diag' : SinkState) (s : Status)
+    → EndsBy words src src' out out' diag diag' s → LatticeHeadline words src src' out out' s
+lattice_headline same words src src' out out' diag diag' s h op from to bytes is left =
+    ending words src src' out out' diag diag' (LatticeHeadlineFor op from to bytes out out') (bound_whole same words src src' out out' op from to bytes is left)
+    (no_bound same words src src' out out' op from to bytes is left diag diag') s h
+
+-- ---- the words of a check
+checked : (words : List (List ℕ)) (left : Option (List ℕ)) (bytes told : List ℕ) → IsTask words Check → left ≡ Some bytes → IfSome left (λ z. z ≡ told)
+    → (answer : Result (List ℕ) Refusal) → IsAnswer words told answer → AnswersCheck bytes answer
+checked words left bytes told is e f answer h =
+    subst (λ z. AnswersCheck z answer) (sym (same_bytes left bytes told e f)) (next_says (Asks words) (λ task. AnswersTask task told) (asks_one words) Check is answer h)
+
+module _ (words : List (List ℕ)) (src src' : SourceState) (out out' : SinkState) (bytes : List ℕ) (is : IsTask words Check) (left : src.left ≡ Some bytes) where
+  accepted_whole : IsDone words src src' out out' → CheckHeadlineFor bytes out out' status.Done
+  accepted_whole h =
+      let o = clean_found bytes h.text (checked words src.left bytes h.ready.bytes is left h.ready.told (Ok h.text) h.ready.answer) in
+      record {
+        accepted = λ d file. refl;
+        right = λ e. record { d = o.d; file = o.file; gains = subst (Gains out out') o.text h.gains };
+        nothing = λ n. absurd (n refl);
+      }
+
+  not_accepted : (diag diag' : SinkState) (s : Status) → s ≢ status.Done → out' ≡ out → IsTold words src src' diag diag' s → CheckHeadlineFor bytes out out' s
+  not_accepted diag diag' s other before h =
+      let r = h.refused in
+      let answer = checked words src.left bytes r.bytes is left r.told (Err h.refusal) r.answer in
+      record {
+        accepted = λ d file. absurd (clean_given bytes d file h.refusal answer);
+        right = λ e. absurd (other e);
+        nothing = λ n. before;
+      }
+
+pub check_headline : (words : List (List ℕ)) (src src' : SourceState) (out out' diag diag' : SinkState) (s : Status)
+    → EndsBy words src src' out out' diag diag' s → CheckHeadline words src src' out out' s
+check_headline words src src' out out' diag diag' s h bytes is left =
+    ending words src src' out out' diag diag' (CheckHeadlineFor bytes out out') (accepted_whole words src src' out out' bytes is left) (not_accepted words src src' out out' bytes is left diag diag') s h

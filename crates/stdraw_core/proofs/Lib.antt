@@ -5,9 +5,15 @@ pub mod PathLemmas
 pub mod BenchLemmas
 pub mod GeneratedLemmas
 pub mod GeneratedOne
+pub mod PlaneLemmas
+pub mod OrientOne
 pub mod OneAnswer
 pub mod RunLemmas
 pub mod HeadlineLemmas
+pub mod OrientHeadline
 pub mod CompleteLemmas
 pub mod ExactLemmas
 pub mod QueryLemmas
+pub mod LatticeLemmas
+pub mod CheckLemmas
+pub mod AcceptedLemmas

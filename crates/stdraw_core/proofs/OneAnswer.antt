@@ -1,6 +1,6 @@
 -- Words and bytes have at most one answer, as each stage has.
 use Rattle.std.proofs.Common.{◌≡◌, ℕ, inl, inr, ℤ, List, [], ◌∷◌, ◌++◌, length, sym, ap, ◌∙◌, subst}
-use Rattle.std.specs.Prelude.{Ok, Err, ◌↔◌, IsTrue}
+use Rattle.std.specs.Prelude.{Result, Ok, Err, ◌↔◌, IsTrue}
 use Rattle.st_ids.specs.Graph.{arcs_of}
 use Rattle.st_ids.specs.Walks.{Reaches}
 use Rattle.st_input.specs.InputGraph.{InputGraph, IsConsistent}
@@ -8,19 +8,26 @@ use Rattle.st_input.specs.Names.{AreDifferent}
 use Rattle.st_test.specs.Planar.{IsPlanarSt, StValue}
 use Rattle.st_test.specs.PolesAnswer.{OnePolesAnswer}
 use Rattle.st_words.specs.declared.words.Command.{Command}
-use Rattle.st_words.specs.declared.words.Command.TheVariants.{Query, Test, Draw}
+use Rattle.st_words.specs.declared.words.Command.TheVariants.{Query, Test, Draw, Lattice}
 use Rattle.st_words.specs.declared.words.DrawForm.{DrawForm}
 use Rattle.st_words.specs.declared.words.DrawForm.TheVariants.{Visibility, Tessellation, Constrained, Polyline, Dominance}
 use Rattle.st_report.specs.declared.stop.Refusal.TheVariants.{UnknownVertex}
 use Rattle.st_verdict.specs.Stages.{IsOne}
 use Rattle.st_words.specs.declared.words.Recipe.{Recipe}
 use Rattle.st_words.specs.declared.words.Task.{Task}
-use Rattle.st_words.specs.declared.words.Task.TheVariants.{File, Gen, Bench}
+use Rattle.st_words.specs.declared.words.Task.TheVariants.{File, Check, Orient, Gen, Bench}
 use Rattle.st_words.proofs.OneTask.{one_task_law}
-use Rattle.stdraw_core.specs.Query.{names_of, AreKnown, IsFirstUnknown, IsLine, line_of_pair, AreLines, no_line, one_line, AreAnswers}
+use Rattle.stdraw_core.specs.Query.{names_of, IsFirstUnknown, IsLine, line_of_pair, AreLines, no_line, one_line, AreAnswers}
 use Rattle.st_verdict.specs.Verdict.{IsAccepted, IsFound}
 use Rattle.stdraw_core.specs.Paths.{AreSidesIn}
-use Rattle.stdraw_core.specs.Answer.{Asks, Answers, AnswersGraph, AnswersFile, AnswersTask, HaveOneAnswer}
+use Rattle.stdraw_core.specs.Answer.{Asks, Answers, AnswersGraph, AnswersFile, AnswersTask, AreAlike, HaveOneAnswer}
+use Rattle.stdraw_core.specs.Bench.{AnswersBench}
+use Rattle.stdraw_core.specs.Generated.{AnswersGen}
+use Rattle.st_report.specs.declared.stop.Refusal.{Refusal}
+use Rattle.st_test.specs.Planar.{AcyclicIsLoopless}
+use Rattle.st_words.specs.Words.{IsTask}
+use Rattle.stdraw_core.proofs.OrientOne.{FaultForbids, alike_then, orient_alike}
+use Rattle.stdraw_core.proofs.QueryLemmas.{known_unknown, same_unknown}
 use Rattle.st_ids.specs.declared.names.Names.{Names}
 use Rattle.st_shape.specs.declared.point.Point.{Point}
 use Rattle.st_shape.specs.Rules.{Drawing}
@@ -40,6 +47,10 @@ use Rattle.stdraw_core.specs.Bench.{bench_line, IsLineOn, IsBenched}
 use Rattle.stdraw_core.specs.Drawing.{AnswersDraw}
 use Rattle.stdraw_core.specs.Query.{AnswersQuery}
 use Rattle.stdraw_core.specs.Tested.{AnswersTest}
+use Rattle.stdraw_core.specs.Lattice.{AnswersLattice}
+use Rattle.stdraw_core.proofs.LatticeLemmas.{both_known, same_bound_lines}
+use Rattle.stdraw_core.proofs.CheckLemmas.{check_one}
+use Rattle.st_words.specs.declared.words.Operation.{Operation}
 use Rattle.st_verdict.specs.File.{IsGraphWithin}
 use Rattle.st_verdict.proofs.Public.{ok, err, same_ok, one_then, told_one, same_bool, found, accepted_one, graph_within_one, consistent_within}
 
@@ -74,22 +85,18 @@ same_answers ps g st tables planar a b h k =
     let one : h.points ≡ k.points = one_points st planar h.are.sides k.are.sides (file_names g) h.are.picture k.are.picture h.points k.points h.are.drawn k.are.drawn in
     same_lines g h.points ps a b tables.different h.lines (subst (λ (z : List Point). AreLines g z ps b) (sym one) k.lines)
 
-pub known_unknown : (g : InputGraph) (ns : List ℤ) (n : ℤ) → AreKnown g ns → IsFirstUnknown g ns n → ⊥
-known_unknown g [] n h k = k
-known_unknown g (m ∷ ns) n h k = elim k [ inl a ↦ a.0 h.0.0 h.0.1 | inr b ↦ known_unknown g ns n h.1 b.1 ]
-
-same_unknown : (g : InputGraph) (ns : List ℤ) (n m : ℤ) → IsFirstUnknown g ns n → IsFirstUnknown g ns m → n ≡ m
-same_unknown g [] n m h k = absurd h
-same_unknown g (x ∷ ns) n m h k = elim h [
-  | inl a ↦ elim k [ inl b ↦ a.1 ∙ sym b.1 | inr b ↦ absurd (a.0 b.0.0 b.0.1) ]
-  | inr a ↦ elim k [ inl b ↦ absurd (b.0 a.0.0 a.0.1) | inr b ↦ same_unknown g ns n m a.1 b.1 ]
-]
-
 query_one : (ps : List (ℤ × ℤ)) (g : InputGraph) (st : StValue) → IsConsistent g → IsPlanarSt st.map.graph st.source st.sink st.outer → IsOne (AnswersQuery ps g st)
 query_one ps g st tables planar (Ok a) (Ok b) h k = ok a b (same_answers ps g st tables planar a b h k)
 query_one ps g st tables planar (Ok a) (Err s) h k = absurd (known_unknown g (names_of ps) k.fault h.known k.holds)
 query_one ps g st tables planar (Err r) (Ok b) h k = absurd (known_unknown g (names_of ps) h.fault k.known h.holds)
 query_one ps g st tables planar (Err r) (Err s) h k = err r s (told_one (λ name. UnknownVertex name) (IsFirstUnknown g (names_of ps)) (same_unknown g (names_of ps)) r s h k)
+
+-- ---- the bound
+lattice_one : (op : Operation) (from to : ℤ) (g : InputGraph) (st : StValue) → IsConsistent g → IsPlanarSt st.map.graph st.source st.sink st.outer → IsOne (AnswersLattice op from to g st)
+lattice_one op from to g st tables planar (Ok a) (Ok b) h k = ok a b (same_bound_lines op from to g st tables planar a b h k)
+lattice_one op from to g st tables planar (Ok a) (Err s) h k = absurd (known_unknown g (from ∷ to ∷ []) k.fault (both_known op from to g st a h) k.holds)
+lattice_one op from to g st tables planar (Err r) (Ok b) h k = absurd (known_unknown g (from ∷ to ∷ []) h.fault (both_known op from to g st b k) h.holds)
+lattice_one op from to g st tables planar (Err r) (Err s) h k = err r s (told_one (λ name. UnknownVertex name) (IsFirstUnknown g (from ∷ to ∷ [])) (same_unknown g (from ∷ to ∷ [])) r s h k)
 
 -- ---- the test
 test_one : (g : InputGraph) (st : StValue) → IsOne (AnswersTest g st)
@@ -130,6 +137,7 @@ answers_one : (c : Command) (g : InputGraph) (st : StValue) → IsConsistent g �
 answers_one (Query ps) g st tables is = query_one ps g st tables (found g st is).planar
 answers_one Test g st tables is = test_one g st
 answers_one (Draw form) g st tables is = draw_one form g st tables (found g st is)
+answers_one (Lattice op from to) g st tables is = lattice_one op from to g st tables (found g st is).planar
 
 module _ (answer_same : OnePolesAnswer) where
   graph_answers_one : (c : Command) (g : InputGraph) → IsConsistent g → IsOne (AnswersGraph c g)
@@ -146,14 +154,24 @@ module _ (answer_same : OnePolesAnswer) where
       let line : IsLineOn form h.g k.st b = subst (λ (z : InputGraph). IsLineOn form z k.st b) (sym graphs) k.line in
       same_line_on form h.g h.st h.is.tables (found h.g h.st h.planar) a b h.line (subst (λ (z : StValue). IsLineOn form h.g z b) (sym values) line)
 
-  task_answers_one : (task : Task) (bytes : List ℕ) → IsOne (AnswersTask task bytes)
-  task_answers_one (File c) bytes x y h k = file_answers_one c bytes x y h k
-  task_answers_one (Gen r) bytes (Ok a) (Ok b) h k = ok a b (file_same r a b h k)
-  task_answers_one (Gen r) bytes (Ok a) (Err s) h k = absurd k
-  task_answers_one (Gen r) bytes (Err s) y h k = absurd h
-  task_answers_one (Bench r form) bytes (Ok a) (Ok b) h k = ok a b (bench_same r form a b h k)
-  task_answers_one (Bench r form) bytes (Ok a) (Err s) h k = absurd k
-  task_answers_one (Bench r form) bytes (Err s) y h k = absurd h
+  gen_one : (r : Recipe) → IsOne (AnswersGen r)
+  gen_one r (Ok a) (Ok b) h k = ok a b (file_same r a b h k)
+  gen_one r (Ok a) (Err s) h k = absurd k
+  gen_one r (Err s) y h k = absurd h
 
-pub one_answer : OnePolesAnswer → HaveOneAnswer
-one_answer answer_same words bytes = one_then (Asks words) (λ task. AnswersTask task bytes) (asks_one words) (λ task _. task_answers_one answer_same task bytes)
+  bench_one : (r : Recipe) (form : DrawForm) → IsOne (AnswersBench r form)
+  bench_one r form (Ok a) (Ok b) h k = ok a b (bench_same r form a b h k)
+  bench_one r form (Ok a) (Err s) h k = absurd k
+  bench_one r form (Err s) y h k = absurd h
+
+  -- the answers to a task are one, but for orientations
+  task_alike : FaultForbids → AcyclicIsLoopless → (words : List (List ℕ)) (bytes : List ℕ) (task : Task) → IsTask words task → (x y : Result (List ℕ) Refusal) → AnswersTask task bytes x → AnswersTask task bytes y → AreAlike words x y
+  task_alike forbids loopless words bytes (File c) asked x y h k = inl (file_answers_one c bytes x y h k)
+  task_alike forbids loopless words bytes Check asked x y h k = inl (check_one bytes x y h k)
+  task_alike forbids loopless words bytes (Orient from to) asked x y h k = elim (orient_alike forbids loopless from to bytes x y h k) [ inl e ↦ inl e | inr o ↦ inr ((from, to, asked), o) ]
+  task_alike forbids loopless words bytes (Gen r) asked x y h k = inl (gen_one r x y h k)
+  task_alike forbids loopless words bytes (Bench r form) asked x y h k = inl (bench_one r form x y h k)
+
+pub one_answer : OnePolesAnswer → FaultForbids → AcyclicIsLoopless → HaveOneAnswer
+one_answer answer_same forbids loopless words bytes =
+    alike_then (AreAlike words) (λ x y e. inl e) (Asks words) (λ task. AnswersTask task bytes) (asks_one words) (λ task asked. task_alike answer_same forbids loopless words bytes task asked)

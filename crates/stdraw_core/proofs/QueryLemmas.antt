@@ -96,3 +96,15 @@ answered_push g points ps r out out' n m u v answer p q h e f pair text =
 -- what is told of the first name that no vertex has
 pub unknown_stop : (g : InputGraph) (points : List Point) (ps : List (ℤ × ℤ)) (stop : Stop) (name : ℤ) → stop ≡ Refused (UnknownVertex name) → IsFirstUnknown g (names_of ps) name → IsStop (AnswersPairs ps g points) stop
 unknown_stop g points ps stop name e h = subst (λ s. IsStop (AnswersPairs ps g points) s) (sym e) (record { fault = name; is = refl; holds = h })
+
+-- ---- names that are known, or not
+pub known_unknown : (g : InputGraph) (ns : List ℤ) (n : ℤ) → AreKnown g ns → IsFirstUnknown g ns n → ⊥
+known_unknown g [] n h k = k
+known_unknown g (m ∷ ns) n h k = elim k [ inl a ↦ a.0 h.0.0 h.0.1 | inr b ↦ known_unknown g ns n h.1 b.1 ]
+
+pub same_unknown : (g : InputGraph) (ns : List ℤ) (n m : ℤ) → IsFirstUnknown g ns n → IsFirstUnknown g ns m → n ≡ m
+same_unknown g [] n m h k = absurd h
+same_unknown g (x ∷ ns) n m h k = elim h [
+  | inl a ↦ elim k [ inl b ↦ a.1 ∙ sym b.1 | inr b ↦ absurd (a.0 b.0.0 b.0.1) ]
+  | inr a ↦ elim k [ inl b ↦ absurd (b.0 a.0.0 a.0.1) | inr b ↦ same_unknown g ns n m a.1 b.1 ]
+]

@@ -1,5 +1,5 @@
 -- What a run does with an answer.
-use Rattle.std.proofs.Common.{◌≡◌, ◌≢◌, ℕ, ◌<◌, ◌≤◌, ℤ, List, ◌++◌, [], length, Some, None, refl, sym, ap, ◌∙◌, subst, arith, length-append, append-nil}
+use Rattle.std.proofs.Common.{◌≡◌, ◌≢◌, ℕ, ◌+◌, ◌<◌, ◌≤◌, ℤ, List, ◌++◌, [], ◌∷◌, length, Some, None, refl, sym, ap, ◌∙◌, subst, arith, length-append, append-nil}
 use Rattle.std.specs.Prelude.{Result, Ok, Err, IfOk, IfSome, IsErrOf, IsTrue}
 use Rattle.std.specs.declared.option.Option.{Option}
 use Rattle.std.specs.Io.KnownBytes.{Consumes, IsAtEnd}
@@ -20,14 +20,16 @@ use Rattle.st_input.specs.InputGraph.{InputGraph}
 use Rattle.st_input.specs.declared.fault.ShapeFault.{ShapeFault}
 use Rattle.st_input.specs.declared.fault.ShapeFault.TheVariants as shape
 use Rattle.st_words.specs.declared.words.Command.{Command}
-use Rattle.st_words.specs.declared.words.Command.TheVariants.{Query, Test, Draw}
+use Rattle.st_words.specs.declared.words.Command.TheVariants.{Query, Test, Draw, Lattice}
 use Rattle.st_words.specs.declared.words.DrawForm.{DrawForm}
 use Rattle.st_words.specs.declared.words.DrawForm.TheVariants.{Visibility, Tessellation, Constrained, Polyline, Dominance}
 use Rattle.st_report.specs.declared.stop.BadPath.{BadPath}
+use Rattle.st_report.specs.declared.stop.NoOrientation.{NoOrientation as unoriented}
+use Rattle.st_report.specs.declared.stop.NoOrientation.TheVariants.{OnePole, Loop, Apart, Cut}
 use Rattle.st_report.specs.declared.stop.NotSt.{NotSt as not_st}
-use Rattle.st_report.specs.declared.stop.NotSt.TheVariants.{BadOrder}
+use Rattle.st_report.specs.declared.stop.NotSt.TheVariants.{BadOrder, BadFaces, Outer}
 use Rattle.st_report.specs.declared.stop.Refusal.{Refusal}
-use Rattle.st_report.specs.declared.stop.Refusal.TheVariants.{Words, TooManyBytes, Gml, Shape, NotSt, Path, UnknownVertex}
+use Rattle.st_report.specs.declared.stop.Refusal.TheVariants.{Words, TooManyBytes, Gml, Shape, NotSt, Path, UnknownVertex, TooLongDrawing, Eps, NotClean, NoOrientation}
 use Rattle.st_report.specs.declared.stop.Status.TheVariants as status
 use Rattle.st_report.specs.declared.stop.Stop.{Stop}
 use Rattle.st_report.specs.declared.stop.Stop.TheVariants.{Refused, ReadFault, WriteFault, NoMemory}
@@ -35,27 +37,30 @@ use Rattle.st_report.specs.Lines.{status_of, stop_line, stop_status}
 use Rattle.st_report.specs.Telling.{Tells}
 use Rattle.st_test.specs.Planar.{StValue}
 use Rattle.st_words.specs.declared.words.Task.{Task}
-use Rattle.st_words.specs.declared.words.Task.TheVariants.{File, Gen, Bench}
+use Rattle.st_words.specs.declared.words.Task.TheVariants.{File, Check, Orient, Gen, Bench}
 use Rattle.st_words.specs.Words.{IsCommand, IsTask, IsFileless, HasOneTask}
 use Rattle.st_verdict.specs.File.{IsFew, IsTree, IsGraph, IsGraphIn, IsGraphWithin}
 use Rattle.st_verdict.specs.Stages.{Then, refuses, goes_on, IsToldBy}
 use Rattle.st_verdict.specs.Stops.{Gives, StopsAt}
-use Rattle.st_verdict.specs.Verdict.{HasPoles, HasNoPoles, HasMap, IsPlanar, IsNotPlanar, IsAccepted, vertex_name}
+use Rattle.st_verdict.specs.Verdict.{HasPoles, HasNoPoles, HasMap, IsPlanar, IsNotPlanar, IsAccepted, vertex_name, edge_name}
 use Rattle.stdraw_core.specs.Answer.{Answers, AnswersGraph, AnswersTask}
 use Rattle.stdraw_core.specs.Drawing.{AnswersDraw}
+use Rattle.st_bipolar.specs.declared.orienting.OrientFault.{OrientFault}
+use Rattle.st_bipolar.specs.declared.orienting.OrientFault.TheVariants as orient_fault
+use Rattle.stdraw_core.specs.Oriented.{ArePolesNamed, AreTwo, IsFirstLoop, IsLoopless, TellsOrient, AnswersPlane, AnswersPoles, AnswersGraphOriented}
 use Rattle.stdraw_core.specs.Paths.{IsBadPath}
 use Rattle.stdraw_core.specs.Query.{IsFirstUnknown, names_of}
-use Rattle.stdraw_core.specs.Run.{TakesFew, IsFailedRead, Leaves, HasRead, IsReadAs, HasNoGraph, Finds, IsReady, IsRefused, Decides, EndsBy, is_done, is_refused, is_unread, is_cut, no_memory}
+use Rattle.stdraw_core.specs.Run.{most_bytes, TakesAtMost, TakesFew, IsFailedRead, Leaves, HasRead, IsReadAs, HasNoGraph, Finds, IsReady, IsRefused, Decides, EndsBy, is_done, is_refused, is_unread, is_cut, no_memory}
 
 -- ---- what was read
 -- the bytes that are answered, where these were taken
-record AreRead (old new : Option (List ℕ)) (taken : List ℕ) : Type 0 where
+pub record AreRead (old new : Option (List ℕ)) (taken : List ℕ) : Type 0 where
   pub bytes : List ℕ
   pub told : IfSome old (λ left. left ≡ bytes)
   pub most : length taken ≤ length bytes
   pub whole : IsAtEnd new → taken ≡ bytes
 
-read_bytes : (old new : Option (List ℕ)) (taken : List ℕ) → Consumes old new taken → AreRead old new taken
+pub read_bytes : (old new : Option (List ℕ)) (taken : List ℕ) → Consumes old new taken → AreRead old new taken
 read_bytes None new taken h = record { bytes = taken; told = tt; most = omega arith; whole = λ e. refl }
 read_bytes (Some xs) None taken h = absurd h
 read_bytes (Some xs) (Some ys) taken h = record {
@@ -70,36 +75,40 @@ some_bytes None = ([], tt)
 some_bytes (Some xs) = (xs, refl)
 
 -- nothing was taken
-pub takes_none : (old : Option (List ℕ)) → TakesFew old old
-takes_none None = record { taken = []; consumed = tt; few = omega arith }
-takes_none (Some xs) = record { taken = []; consumed = refl; few = omega arith }
+pub takes_none : (words : List (List ℕ)) (old : Option (List ℕ)) → TakesFew words old old
+takes_none words None = λ task asked. record { taken = []; consumed = tt; few = omega arith }
+takes_none words (Some xs) = λ task asked. record { taken = []; consumed = refl; few = omega arith }
+
+-- what was taken for the one task of the words
+pub takes_few : HasOneTask → (words : List (List ℕ)) (task : Task) → IsTask words task → (old new : Option (List ℕ)) → TakesAtMost (most_bytes task + 4096) old new → TakesFew words old new
+takes_few one words task is old new h = λ other asked. subst (λ z. TakesAtMost (most_bytes z + 4096) old new) (one words task other is asked) h
 
 -- however the reading ended
-pub takes_few : {S A : Type 0} (state : S → SourceState) (old new : S) (made : A → List ℕ → Type 0) (result : Result A ReadEnd) → Reads state old new MOST_BYTES made result → TakesFew (state old).left (state new).left
-takes_few state old new made (Ok v) h = record { taken = h.taken; consumed = subst (λ z. Consumes (state old).left (state z).left h.taken) (sym h.ends.0) h.takes.consumed; few = omega (arith, h.ends.3) }
-takes_few state old new made (Err read.Failed) h = record { taken = h.taken; consumed = Consumes-kept (state old).left (state h.near).left (state new).left h.taken h.takes.consumed h.ends.0; few = omega (arith, h.ends.2) }
-takes_few state old new made (Err read.TooLong) h = record { taken = h.taken; consumed = subst (λ z. Consumes (state old).left (state z).left h.taken) (sym h.ends.0) h.takes.consumed; few = h.ends.2 }
-takes_few state old new made (Err read.NoMemory) h = record { taken = h.taken; consumed = subst (λ z. Consumes (state old).left (state z).left h.taken) (sym h.ends.0) h.takes.consumed; few = h.ends.1 }
+pub takes_at_most : {S A : Type 0} (state : S → SourceState) (old new : S) (limit : ℕ) (made : A → List ℕ → Type 0) (result : Result A ReadEnd) → Reads state old new limit made result → TakesAtMost (limit + 4096) (state old).left (state new).left
+takes_at_most state old new limit made (Ok v) h = record { taken = h.taken; consumed = subst (λ z. Consumes (state old).left (state z).left h.taken) (sym h.ends.0) h.takes.consumed; few = omega (arith, h.ends.3) }
+takes_at_most state old new limit made (Err read.Failed) h = record { taken = h.taken; consumed = Consumes-kept (state old).left (state h.near).left (state new).left h.taken h.takes.consumed h.ends.0; few = omega (arith, h.ends.2) }
+takes_at_most state old new limit made (Err read.TooLong) h = record { taken = h.taken; consumed = subst (λ z. Consumes (state old).left (state z).left h.taken) (sym h.ends.0) h.takes.consumed; few = h.ends.2 }
+takes_at_most state old new limit made (Err read.NoMemory) h = record { taken = h.taken; consumed = subst (λ z. Consumes (state old).left (state z).left h.taken) (sym h.ends.0) h.takes.consumed; few = h.ends.1 }
 
 -- a failed read, whatever was made of the bytes before it
-pub failed_read : {S A : Type 0} (state : S → SourceState) (old new : S) (made : A → List ℕ → Type 0) → Reads state old new MOST_BYTES made (Err read.Failed) → IsFailedRead (state old) (state new)
-failed_read state old new made h = record { taken = h.taken; near = state h.near; takes = h.takes; ends = h.ends }
+pub failed_read : {S A : Type 0} (state : S → SourceState) (old new : S) (limit : ℕ) (made : A → List ℕ → Type 0) → Reads state old new limit made (Err read.Failed) → IsFailedRead limit (state old) (state new)
+failed_read state old new limit made h = record { taken = h.taken; near = state h.near; takes = h.takes; ends = h.ends }
 
-failed_rose : (old new : SourceState) → IsFailedRead old new → Rose old.faults new.faults
-failed_rose old new h = subst (λ (z : Faults). Rose z new.faults) h.takes.quiet h.ends.1
+pub failed_rose : (old new : SourceState) (limit : ℕ) → IsFailedRead limit old new → Rose old.faults new.faults
+failed_rose old new limit h = subst (λ (z : Faults). Rose z new.faults) h.takes.quiet h.ends.1
 
 -- ---- refusals that a stage never gives
-abbrev NeverGives : {A : Type 0} → Refusal → (Result A Refusal → Type 0) → Type 0
+abbrev pub NeverGives : {A : Type 0} → Refusal → (Result A Refusal → Type 0) → Type 0
 NeverGives r P = P (Err r) → ⊥
 
 same_refusal : {A : Type 0} (r s : Refusal) → (let e : Result A Refusal = Err r in e) ≡ Err s → r ≡ s
 same_refusal r s h = cc
 
-never_then : {A B : Type 0} (r : Refusal) (first : Result A Refusal → Type 0) (next : A → Result B Refusal → Type 0) → NeverGives r first → ((a : A) → NeverGives r (next a)) → NeverGives r (Then first next)
+pub never_then : {A B : Type 0} (r : Refusal) (first : Result A Refusal → Type 0) (next : A → Result B Refusal → Type 0) → NeverGives r first → ((a : A) → NeverGives r (next a)) → NeverGives r (Then first next)
 never_then {A} {B} r first next no_first no_next (refuses s h e) = no_first (subst (λ z. first (Err z)) (sym (same_refusal {A = B} r s e)) h)
 never_then r first next no_first no_next (goes_on a h g) = no_next a g
 
-never_told : {F : Type 0} (make : F → Refusal) (P : F → Type 0) (r : Refusal) → ((f : F) → r ≢ make f) → IsToldBy make P r → ⊥
+pub never_told : {F : Type 0} (make : F → Refusal) (P : F → Type 0) (r : Refusal) → ((f : F) → r ≢ make f) → IsToldBy make P r → ⊥
 never_told make P r other h = other h.fault h.is
 
 -- a refusal before the tree is looked at
@@ -109,12 +118,16 @@ record IsEarly (r : Refusal) : Type 0 where
   not_st : (why : not_st) → r ≢ NotSt why
   path : (why : BadPath) → r ≢ Path why
   unknown : (n : ℤ) → r ≢ UnknownVertex n
+  oriented : (why : unoriented) → r ≢ NoOrientation why
 
 words_early : IsEarly Words
-words_early = record { gml = λ f e. cc; shape = λ f e. cc; not_st = λ why e. cc; path = λ why e. cc; unknown = λ n e. cc }
+words_early = record { gml = λ f e. cc; shape = λ f e. cc; not_st = λ why e. cc; path = λ why e. cc; unknown = λ n e. cc; oriented = λ why e. cc }
+
+drawing_early : IsEarly TooLongDrawing
+drawing_early = record { gml = λ f e. cc; shape = λ f e. cc; not_st = λ why e. cc; path = λ why e. cc; unknown = λ n e. cc; oriented = λ why e. cc }
 
 bytes_early : IsEarly TooManyBytes
-bytes_early = record { gml = λ f e. cc; shape = λ f e. cc; not_st = λ why e. cc; path = λ why e. cc; unknown = λ n e. cc }
+bytes_early = record { gml = λ f e. cc; shape = λ f e. cc; not_st = λ why e. cc; path = λ why e. cc; unknown = λ n e. cc; oriented = λ why e. cc }
 
 module _ (r : Refusal) (early : IsEarly r) where
   never_in : (bytes : List ℕ) → NeverGives r (IsGraphIn bytes)
@@ -140,20 +153,42 @@ module _ (r : Refusal) (early : IsEarly r) where
   never_answered (Query ps) g st = never_told (λ n. UnknownVertex n) (IsFirstUnknown g (names_of ps)) r early.unknown
   never_answered Test g st = λ h. h
   never_answered (Draw form) g st = never_drawn form g st
+  never_answered (Lattice op from to) g st = never_told (λ n. UnknownVertex n) (IsFirstUnknown g (from ∷ to ∷ [])) r early.unknown
 
   never_graph : (command : Command) (g : InputGraph) → NeverGives r (AnswersGraph command g)
   never_graph command g = never_then r (IsAccepted g) (Answers command g) (never_accepted g) (never_answered command g)
 
+  -- what is told of a fault is none of these
+  never_fault : (g : InputGraph) (fault : OrientFault) → TellsOrient g fault r → ⊥
+  never_fault g (orient_fault.Apart v) h = early.oriented (Apart (vertex_name g v.0)) h
+  never_fault g (orient_fault.BadFaces v e f) h = early.not_st (BadFaces v e f) h
+  never_fault g (orient_fault.Outer a b) h = early.not_st (Outer a b) h
+  never_fault g (orient_fault.Cut c v) h = early.oriented (Cut (vertex_name g c.0) (vertex_name g v.0)) h
+  never_fault g orient_fault.NoMemory h = h
+
+  never_oriented : (from to : ℤ) (g : InputGraph) → NeverGives r (AnswersGraphOriented from to g)
+  never_oriented from to g =
+      never_then r (ArePolesNamed from to g) (AnswersPoles g) (never_told (λ n. UnknownVertex n) (IsFirstUnknown g (from ∷ to ∷ [])) r early.unknown)
+      (λ p. never_then r (AreTwo p) (λ _. Then (IsLoopless g) (λ _. Then (HasMap g) (AnswersPlane g p))) (λ h. early.oriented OnePole h.0)
+      (λ _. never_then r (IsLoopless g) (λ _. Then (HasMap g) (AnswersPlane g p)) (never_told (λ e. NoOrientation (Loop (edge_name g e))) (IsFirstLoop g.graph) r (λ e. early.oriented (Loop (edge_name g e))))
+      (λ _. never_then r (HasMap g) (AnswersPlane g p)
+      (never_told (λ (v : VertexId). NotSt (BadOrder (vertex_name g v.0))) (λ v. IsMapFault g.graph g.orders (map_fault.BadOrder v)) r (λ v. early.not_st (BadOrder (vertex_name g v.0))))
+      (λ m h. never_fault g h.0 h.2))))
+
 -- ---- what a refusal leaves
 -- a refusal of a stage that never refuses for the number of bytes
-leaves_end : {A : Type 0} (P : Result A Refusal → Type 0) → NeverGives TooManyBytes P → (old new : Option (List ℕ)) → IsAtEnd new → (r : Refusal) → P (Err r) → Leaves r old new
-leaves_end P never old new end Words h = tt
-leaves_end P never old new end TooManyBytes h = absurd (never h)
-leaves_end P never old new end (Gml f) h = end
-leaves_end P never old new end (Shape f) h = end
-leaves_end P never old new end (NotSt why) h = end
-leaves_end P never old new end (Path why) h = end
-leaves_end P never old new end (UnknownVertex n) h = end
+pub leaves_end : {A : Type 0} (P : Result A Refusal → Type 0) → NeverGives TooManyBytes P → NeverGives TooLongDrawing P → (old new : Option (List ℕ)) → IsAtEnd new → (r : Refusal) → P (Err r) → Leaves r old new
+leaves_end P many long old new end Words h = tt
+leaves_end P many long old new end TooManyBytes h = absurd (many h)
+leaves_end P many long old new end TooLongDrawing h = absurd (long h)
+leaves_end P many long old new end (Gml f) h = end
+leaves_end P many long old new end (Shape f) h = end
+leaves_end P many long old new end (NotSt why) h = end
+leaves_end P many long old new end (Path why) h = end
+leaves_end P many long old new end (UnknownVertex n) h = end
+leaves_end P many long old new end (Eps line) h = end
+leaves_end P many long old new end (NotClean fault) h = end
+leaves_end P many long old new end (NoOrientation why) h = end
 
 -- ---- the file
 -- what a call gives, by its two clauses
@@ -189,7 +224,7 @@ module _ {S A : Type 0} (state : S → SourceState) (old new : S) (made : A → 
     bytes = all_read.bytes;
     told = all_read.told;
     refused = within (Err r) (gives h.taken h.ends.2);
-    leaves = leaves_end (IsGraphIn h.taken) (never_in TooManyBytes bytes_early h.taken) (state old).left (state new).left h.ends.1 r (gives h.taken h.ends.2);
+    leaves = leaves_end (IsGraphIn h.taken) (never_in TooManyBytes bytes_early h.taken) (never_in TooLongDrawing drawing_early h.taken) (state old).left (state new).left h.ends.1 r (gives h.taken h.ends.2);
   }
   file_found (Err ReadFault) gives = absurd (gives h.taken h.ends.2)
   file_found (Err WriteFault) gives = absurd (gives h.taken h.ends.2)
@@ -198,7 +233,7 @@ module _ {S A : Type 0} (state : S → SourceState) (old new : S) (made : A → 
 -- ---- the answer to a file
 pub file_stopped : (words : List (List ℕ)) (old new : SourceState) (command : Command) (stop : Stop) → IsCommand words command → Finds old new (Err stop) → Decides words old new (Err stop)
 file_stopped words old new command (Refused r) asked h = record { bytes = h.bytes; told = h.told; answer = goes_on (File command) asked (refuses r h.refused refl); leaves = h.leaves }
-file_stopped words old new command ReadFault asked h = record { command = command; asked = asked; read = h; rose = failed_rose old new h }
+file_stopped words old new command ReadFault asked h = record { task = File command; asked = asked; on_file = λ off. off; read = h; rose = failed_rose old new MOST_BYTES h }
 file_stopped words old new command WriteFault asked h = absurd h
 file_stopped words old new command NoMemory asked h = tt
 
@@ -208,11 +243,31 @@ file_decided words old new command g (Err (Refused r)) asked h gives = record {
   bytes = h.bytes;
   told = h.told;
   answer = goes_on (File command) asked (goes_on g h.graph gives);
-  leaves = leaves_end (AnswersGraph command g) (never_graph TooManyBytes bytes_early command g) old.left new.left h.end r gives;
+  leaves = leaves_end (AnswersGraph command g) (never_graph TooManyBytes bytes_early command g) (never_graph TooLongDrawing drawing_early command g) old.left new.left h.end r gives;
 }
 file_decided words old new command g (Err ReadFault) asked h gives = absurd gives
 file_decided words old new command g (Err WriteFault) asked h gives = absurd gives
 file_decided words old new command g (Err NoMemory) asked h gives = tt
+
+-- the same of an orientation
+pub unoriented_stopped : (words : List (List ℕ)) (old new : SourceState) (from to : ℤ) (stop : Stop) → IsTask words (Orient from to) → Finds old new (Err stop) → Decides words old new (Err stop)
+unoriented_stopped words old new from to (Refused r) asked h = record { bytes = h.bytes; told = h.told; answer = goes_on (Orient from to) asked (refuses r h.refused refl); leaves = h.leaves }
+unoriented_stopped words old new from to ReadFault asked h = record { task = Orient from to; asked = asked; on_file = λ off. off; read = h; rose = failed_rose old new MOST_BYTES h }
+unoriented_stopped words old new from to WriteFault asked h = absurd h
+unoriented_stopped words old new from to NoMemory asked h = tt
+
+pub oriented_decided : (words : List (List ℕ)) (old new : SourceState) (from to : ℤ) (g : InputGraph) (result : Result (List ℕ) Stop) → IsTask words (Orient from to) → IsReadAs old new g
+    → Gives (AnswersGraphOriented from to g) result → Decides words old new result
+oriented_decided words old new from to g (Ok out) asked h gives = record { bytes = h.bytes; told = h.told; answer = goes_on (Orient from to) asked (goes_on g h.graph gives); task = Orient from to; asked = asked; read = h.end }
+oriented_decided words old new from to g (Err (Refused r)) asked h gives = record {
+  bytes = h.bytes;
+  told = h.told;
+  answer = goes_on (Orient from to) asked (goes_on g h.graph gives);
+  leaves = leaves_end (AnswersGraphOriented from to g) (never_oriented TooManyBytes bytes_early from to g) (never_oriented TooLongDrawing drawing_early from to g) old.left new.left h.end r gives;
+}
+oriented_decided words old new from to g (Err ReadFault) asked h gives = absurd gives
+oriented_decided words old new from to g (Err WriteFault) asked h gives = absurd gives
+oriented_decided words old new from to g (Err NoMemory) asked h gives = tt
 
 pub same_stop : (s t : Stop) → (let a : Result (List ℕ) Stop = Err s in a) ≡ Err t → s ≡ t
 same_stop s t e = cc
@@ -234,6 +289,13 @@ answered_for_words command g (Ok out) gives e = absurd (no_stop e)
     no_stop e = cc
 answered_for_words command g (Err stop) gives e = never_graph Words words_early command g (subst (λ z. Gives (AnswersGraph command g) (Err z)) (same_stop stop (Refused Words) e) gives)
 
+pub oriented_for_words : (from to : ℤ) (g : InputGraph) (result : Result (List ℕ) Stop) → Gives (AnswersGraphOriented from to g) result → IsErrOf result (Refused Words) → ⊥
+oriented_for_words from to g (Ok out) gives e = absurd (no_stop e)
+  where
+    no_stop : (let a : Result (List ℕ) Stop = Ok out in a) ≡ Err (Refused Words) → ⊥
+    no_stop e = cc
+oriented_for_words from to g (Err stop) gives e = never_oriented Words words_early from to g (subst (λ z. Gives (AnswersGraphOriented from to g) (Err z)) (same_stop stop (Refused Words) e) gives)
+
 -- ---- words that ask for no file
 pub words_refused : (words : List (List ℕ)) (old new : SourceState) → ((task : Task) → IsTask words task → ⊥) → IsRefused words old new Words
 words_refused words old new none =
@@ -242,11 +304,15 @@ words_refused words old new none =
 
 fileless_given : (task : Task) (bytes : List ℕ) (r : Refusal) → IsFileless task → AnswersTask task bytes (Err r) → ⊥
 fileless_given (File command) bytes r off h = off
+fileless_given Check bytes r off h = off
+fileless_given (Orient from to) bytes r off h = off
 fileless_given (Gen recipe) bytes r off h = h
 fileless_given (Bench recipe form) bytes r off h = h
 
 reads_nothing : (task : Task) (s : SourceState) → IsFileless task → HasRead task s s
 reads_nothing (File command) s off = absurd off
+reads_nothing Check s off = absurd off
+reads_nothing (Orient from to) s off = absurd off
 reads_nothing (Gen recipe) s off = refl
 reads_nothing (Bench recipe form) s off = refl
 
@@ -264,6 +330,8 @@ fileless_decided words s task (Err NoMemory) asked off g = tt
 -- where the words ask for a command on a file, they ask for no generated graph
 pub no_fileless : {P : Type 0} → HasOneTask → (words : List (List ℕ)) (command : Command) → IsTask words (File command) → (task : Task) → IsTask words task → IsFileless task → P
 no_fileless one words command asked (File c) is off = absurd off
+no_fileless one words command asked Check is off = absurd off
+no_fileless one words command asked (Orient from to) is off = absurd off
 no_fileless one words command asked (Gen r) is off = absurd (file_or_not (one words (File command) (Gen r) asked is))
   where
     file_or_not : File command ≡ Gen r → ⊥
@@ -295,6 +363,10 @@ refused_not_done (Gml f) e = cc
 refused_not_done (NotSt why) e = cc
 refused_not_done (Path why) e = cc
 refused_not_done (UnknownVertex n) e = cc
+refused_not_done TooLongDrawing e = cc
+refused_not_done (Eps line) e = cc
+refused_not_done (NotClean fault) e = cc
+refused_not_done (NoOrientation why) e = cc
 refused_not_done (Shape shape.NoGraph) e = cc
 refused_not_done (Shape (shape.SecondGraph at)) e = cc
 refused_not_done (Shape (shape.BadKind at)) e = cc

@@ -2,6 +2,9 @@ pub mod Paths
 pub mod Drawing
 pub mod Query
 pub mod Tested
+pub mod Lattice
+pub mod Checked
+pub mod Oriented
 pub mod Generated
 pub mod Bench
 pub mod Answer

@@ -1,5 +1,7 @@
 -- How a run ends, for any source and sinks.
+--   most_bytes             the greatest number of bytes of a file that a task reads
 --   TakesAtMost            at most so many bytes were taken from the source
+--   TakesFew               no more than the task's file may have, and one read
 --   IsFailedRead           reads gave their bytes, and then one failed
 --   Leaves, HasRead        what a refusal, and a task with an output, leave of the source
 --   Finds                  what a file was found to be: a graph, or why it has none
@@ -11,25 +13,33 @@ use Rattle.std.specs.Prelude.{◌≡◌, ℕ, ◌+◌, ◌<◌, ◌≤◌, List,
 use Rattle.std.specs.declared.option.Option.{Option}
 use Rattle.std.specs.Io.KnownBytes.{Consumes, IsAtEnd}
 use Rattle.st_ids.specs.declared.limits.TheConstants.{MOST_BYTES}
+use Rattle.st_report.specs.declared.stop.TheConstants.{MOST_DRAWING_BYTES}
 use Rattle.st_input.specs.InputGraph.{InputGraph}
 use Rattle.st_port.specs.Faults.{Rose}
 use Rattle.st_port.specs.Reading.{Reads}
 use Rattle.st_port.specs.declared.port.ReadEnd.TheVariants.{Failed}
 use Rattle.st_port.specs.Streams.{SourceState, SinkState, Gains, GainsFront}
-use Rattle.st_words.specs.declared.words.Command.{Command}
 use Rattle.st_report.specs.declared.stop.Status.{Status}
 use Rattle.st_report.specs.declared.stop.Status.TheVariants as status
 use Rattle.st_report.specs.declared.stop.Refusal.{Refusal}
-use Rattle.st_report.specs.declared.stop.Refusal.TheVariants.{Words, TooManyBytes}
+use Rattle.st_report.specs.declared.stop.Refusal.TheVariants.{Words, TooManyBytes, TooLongDrawing}
 use Rattle.st_report.specs.declared.stop.Stop.{Stop}
 use Rattle.st_report.specs.declared.stop.Stop.TheVariants.{Refused, ReadFault, WriteFault, NoMemory}
 use Rattle.st_words.specs.declared.words.Task.{Task}
-use Rattle.st_words.specs.declared.words.Task.TheVariants.{File, Gen, Bench}
-use Rattle.st_words.specs.Words.{IsCommand, IsTask}
+use Rattle.st_words.specs.declared.words.Task.TheVariants.{File, Check, Orient, Gen, Bench}
+use Rattle.st_words.specs.Words.{IsTask, IsFileless}
 use Rattle.st_report.specs.Telling.{Tells}
 use Rattle.st_report.specs.Lines.{status_of, line_of, stop_line}
 use Rattle.st_verdict.specs.File.{IsGraphWithin}
 use Rattle.stdraw_core.specs.Answer.{IsAnswer}
+
+-- the greatest number of bytes of a file that the task reads; for a generated graph it reads none
+abbrev pub most_bytes : Task → ℕ
+most_bytes (File command) = MOST_BYTES
+most_bytes Check = MOST_DRAWING_BYTES
+most_bytes (Orient from to) = MOST_BYTES
+most_bytes (Gen r) = 0
+most_bytes (Bench r form) = 0
 
 -- at most so many bytes were taken
 pub record TakesAtMost (most : ℕ) (old new : Option (List ℕ)) : Type 0 where
@@ -37,32 +47,35 @@ pub record TakesAtMost (most : ℕ) (old new : Option (List ℕ)) : Type 0 where
   pub consumed : Consumes old new taken
   pub few : length taken ≤ most
 
--- what any run takes at most: the limit and one read
-abbrev pub TakesFew : Option (List ℕ) → Option (List ℕ) → Type 0
-TakesFew old new = TakesAtMost (MOST_BYTES + 4096) old new
+-- what a run takes at most for the task of its words: the limit and one read
+abbrev pub TakesFew : List (List ℕ) → Option (List ℕ) → Option (List ℕ) → Type 0
+TakesFew words old new = (task : Task) → IsTask words task → TakesAtMost (most_bytes task + 4096) old new
 
 -- more bytes than the limit were taken, by less than one read
-pub record TakesPastLimit (old new : Option (List ℕ)) : Type 0 where
+pub record TakesPastLimit (limit : ℕ) (old new : Option (List ℕ)) : Type 0 where
   pub taken : List ℕ
   pub consumed : Consumes old new taken
-  pub over : MOST_BYTES < length taken
-  pub most : length taken ≤ MOST_BYTES + 4096
+  pub over : limit < length taken
+  pub most : length taken ≤ limit + 4096
 
 -- Reads gave their bytes, at most as many as the limit, and counted no fault. Then one failed, took nothing and counted a fault.
 -- This speaks of what the source tells. That nothing is read behind the failed read is said by `Reads` of the source itself, where
 -- it is read.
-abbrev pub IsFailedRead : SourceState → SourceState → Type 0
-IsFailedRead old new = Reads {S = SourceState} {A = Unit {0}} (λ s. s) old new MOST_BYTES (λ _ _. Unit {0}) (Err Failed)
+abbrev pub IsFailedRead : ℕ → SourceState → SourceState → Type 0
+IsFailedRead limit old new = Reads {S = SourceState} {A = Unit {0}} (λ s. s) old new limit (λ _ _. Unit {0}) (Err Failed)
 
 -- what a refusal leaves of the source
 abbrev pub Leaves : Refusal → Option (List ℕ) → Option (List ℕ) → Type 0
 Leaves Words old new = Unit {0}
-Leaves TooManyBytes old new = TakesPastLimit old new
+Leaves TooManyBytes old new = TakesPastLimit MOST_BYTES old new
+Leaves TooLongDrawing old new = TakesPastLimit MOST_DRAWING_BYTES old new
 Leaves _ old new = IsAtEnd new
 
 -- what a task with an output has read: a file to its end; for a generated graph nothing
 abbrev pub HasRead : Task → SourceState → SourceState → Type 0
 HasRead (File command) old new = IsAtEnd new.left
+HasRead Check old new = IsAtEnd new.left
+HasRead (Orient from to) old new = IsAtEnd new.left
 HasRead (Gen r) old new = new ≡ old
 HasRead (Bench r form) old new = new ≡ old
 
@@ -84,7 +97,7 @@ pub record HasNoGraph (old new : SourceState) (refusal : Refusal) : Type 0 where
 abbrev pub Finds : SourceState → SourceState → Result InputGraph Stop → Type 0
 Finds old new (Ok g) = IsReadAs old new g
 Finds old new (Err (Refused refusal)) = HasNoGraph old new refusal
-Finds old new (Err ReadFault) = IsFailedRead old new
+Finds old new (Err ReadFault) = IsFailedRead MOST_BYTES old new
 Finds old new (Err WriteFault) = ⊥
 Finds old new (Err NoMemory) = Unit {0}
 
@@ -104,11 +117,12 @@ pub record IsRefused (words : List (List ℕ)) (old new : SourceState) (refusal 
   pub answer : IsAnswer words bytes (Err refusal)
   pub leaves : Leaves refusal old.left new.left
 
--- the words are a command on a file, and a read failed, the last one
+-- the words ask for a task on a file, and a read failed, the last one
 pub record IsUnread (words : List (List ℕ)) (old new : SourceState) : Type 0 where
-  pub command : Command
-  pub asked : IsCommand words command
-  pub read : IsFailedRead old new
+  pub task : Task
+  pub asked : IsTask words task
+  pub on_file : IsFileless task → ⊥
+  pub read : IsFailedRead (most_bytes task) old new
   pub rose : Rose old.faults new.faults
 
 -- what was found out before anything was written

@@ -4,6 +4,7 @@ ghost use Rattle.gml_core.specs.Readers.{TreeStandsFor};
 ghost use Rattle.gml_core.specs.Sound.{IsSound};
 ghost use Rattle.gml_core.specs.Views.{view};
 ghost use Rattle.st_input.specs.InputGraph.{IsConsistent};
+ghost use Rattle.st_input.specs.Written.{IsWritable};
 ghost use Rattle.st_port.specs.Faults.{GoesOn};
 ghost use Rattle.st_port.specs.Reading.{Reads};
 ghost use Rattle.st_verdict.specs.File.{IsGraphIn, IsTree};
@@ -13,6 +14,7 @@ use gml_core::{GmlFault, Tree, TreeReader};
 use st_ids::NoMemory;
 use st_ids::limits::{MOST_BYTES, MOST_EDGES, MOST_VERTICES};
 use st_input::GraphSpec;
+use st_input::laws::read_is_writable;
 use st_port::{Piece, ReadEnd, Source};
 use st_report::{Refusal, Stop};
 use st_verdict::graph_of;
@@ -76,10 +78,12 @@ pub fn graph_from(alloc: Global, reader: TreeReader) -> Result<GraphSpec, Stop>
     ensures consistent { IfOk result (λ g. IsConsistent g) }
     ensures high { IfOk result (λ g. g.graph.vertices ≤ MOST_VERTICES) }
     ensures wide { IfOk result (λ g. length g.graph.ends ≤ MOST_EDGES) }
+    ensures writable { IfOk result (λ g. IsWritable g) }
 {
     let tree = match tree_from(reader) {
         Ok(tree) => tree,
         Err(stop) => return Err(stop),
     };
+    read_is_writable();
     graph_of(alloc, &tree)
 }

@@ -5,22 +5,31 @@
 #![tactic(auto)]
 
 mod bench;
+mod checked;
 mod drawing;
 mod feeding;
 mod generated;
+mod lattice;
 pub mod laws;
 mod number;
+mod oriented;
 mod output;
 mod paths;
 mod query;
 mod tested;
 mod top;
 
-pub use st_report::{BadPath, NameList, NotSt, Refusal, Status, Stop};
-pub use st_words::{Command, DrawForm, Pairs, Spot};
+pub use st_report::{BadPath, NameList, NoOrientation, NotSt, Refusal, Status, Stop};
+pub use st_words::{Command, DrawForm, Operation, Pairs, Spot};
 pub use top::run;
 
 #[cfg(test)]
+mod checked_tests;
+#[cfg(test)]
+mod dominance_tests;
+#[cfg(test)]
 mod generated_tests;
+#[cfg(test)]
+mod oriented_tests;
 #[cfg(test)]
 mod tests;

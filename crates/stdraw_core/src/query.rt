@@ -1,7 +1,6 @@
 //! The answer to a query: for each pair of names whether the first vertex reaches the second, and where both stand in the
 //! dominance drawing.
 ghost use Rattle.std.specs.Prelude.{◌≡◌, ◌++◌, ◌≤◌, length, IfOk, OnOk};
-ghost use Rattle.st_input.specs.InputGraph.{IsConsistent};
 ghost use Rattle.stdraw_core.specs.Query.{ArePoints, DecideReaching, answer_word, spelled, line_of_pair};
 ghost use Rattle.st_verdict.specs.Stops.{Gives};
 ghost use Rattle.st_verdict.specs.Verdict.{IsFound};
@@ -9,8 +8,8 @@ ghost use Rattle.st_ids.specs.declared.limits.TheConstants.{MOST_VERTICES, MOST_
 ghost use Rattle.stdraw_core.specs.Query.{AnswersPairs, AnswersQuery};
 
 use crate::number::append_number;
-use draw_dom::{Dominance, dominance};
-use st_ids::{NoMemory, Text};
+use draw_dom::{dominance_points, reaches_by};
+use st_ids::{IdVec, NoMemory, Text, VertexId};
 use st_input::GraphSpec;
 use st_report::{Refusal, Stop};
 use st_shape::Point;
@@ -50,8 +49,8 @@ fn append_line(
     append_point(text, q, b"\n")
 }
 
-// No vertex has the name.
-fn unknown(name: i64) -> Stop
+/// The refusal of a name that no vertex has.
+pub fn unknown(name: i64) -> Stop
     ensures { result ≡ Stop.Refused (Refusal.UnknownVertex name) }
 {
     Stop::Refused(Refusal::UnknownVertex(name))
@@ -62,11 +61,11 @@ fn lines_of(
     alloc: Global,
     spec: &GraphSpec,
     pairs: &[(i64, i64)],
-    drawn: &Dominance,
+    points: &IdVec<VertexId, Point>,
 ) -> Result<Text, Stop>
-    requires reaching { DecideReaching spec.now.graph drawn.now.points }
-    requires size { length drawn.now.points ≡ spec.now.graph.vertices }
-    ensures { Gives (AnswersPairs pairs.now spec.now drawn.now.points) result }
+    requires reaching { DecideReaching spec.now.graph points.now }
+    requires size { length points.now ≡ spec.now.graph.vertices }
+    ensures { Gives (AnswersPairs pairs.now spec.now points.now) result }
 {
     let mut text = Text::new(alloc);
     for i in 0..pairs.len() {
@@ -77,9 +76,9 @@ fn lines_of(
         let Some(v) = spec.vertex_of(to) else {
             return Err(unknown(to));
         };
-        let reached = drawn.reaches(u, v);
-        let p = drawn.point(u);
-        let q = drawn.point(v);
+        let reached = reaches_by(points, u, v);
+        let p = *points.get(u);
+        let q = *points.get(v);
         if append_line(&mut text, from, to, reached, p, q).is_err() {
             return Err(Stop::NoMemory);
         }
@@ -87,19 +86,22 @@ fn lines_of(
     Ok(text)
 }
 
-// The dominance drawing of the file.
-fn dominance_in(alloc: Global, spec: &GraphSpec, graph: StGraph) -> Result<Dominance, NoMemory>
-    requires tables { IsConsistent spec.now }
+// The points of the vertices in the dominance drawing of the file.
+fn points_in(
+    alloc: Global,
+    spec: &GraphSpec,
+    graph: StGraph,
+) -> Result<IdVec<VertexId, Point>, NoMemory>
     requires found { IsFound spec.now graph }
     requires high { spec.now.graph.vertices ≤ MOST_VERTICES }
     requires wide { length spec.now.graph.ends ≤ MOST_EDGES }
-    ensures points { IfOk result (λ d. ArePoints spec.now graph d.points) }
-    ensures reaching { IfOk result (λ d. DecideReaching spec.now.graph d.points) }
-    ensures size { IfOk result (λ d. length d.points ≡ spec.now.graph.vertices) }
+    ensures points { IfOk result (λ points. ArePoints spec.now graph points) }
+    ensures reaching { IfOk result (λ points. DecideReaching spec.now.graph points) }
+    ensures size { IfOk result (λ points. length points ≡ spec.now.graph.vertices) }
 {
     let sides = Sides::of(alloc, &graph)?;
     sides.facts();
-    dominance(alloc, graph, &sides, spec.names())
+    dominance_points(alloc, graph, &sides)
 }
 
 /// One line a pair, with the points of both vertices in the dominance drawing; or the first name that no vertex has.
@@ -112,14 +114,13 @@ pub fn answer_query(
     graph: StGraph,
     pairs: &[(i64, i64)],
 ) -> Result<Text, Stop>
-    requires tables { IsConsistent spec.now }
     requires found { IsFound spec.now graph }
     requires high { spec.now.graph.vertices ≤ MOST_VERTICES }
     requires wide { length spec.now.graph.ends ≤ MOST_EDGES }
     ensures { Gives (AnswersQuery pairs.now spec.now graph) result }
 {
-    match dominance_in(alloc, spec, graph) {
-        Ok(drawn) => lines_of(alloc, spec, pairs, &drawn),
+    match points_in(alloc, spec, graph) {
+        Ok(points) => lines_of(alloc, spec, pairs, &points),
         Err(NoMemory) => Err(Stop::NoMemory),
     }
 }

@@ -15,12 +15,15 @@ const CHAIN: &[u8] =
 
 const EDGE: &[u8] = b"graph [ node [ id 1 ] node [ id 2 ] edge [ source 1 target 2 ] ]\n";
 
-const CHORDS: &[u8] =
+pub const CHORDS: &[u8] =
     b"graph [ node [ id 1 ] node [ id 2 ] node [ id 3 ] node [ id 4 ] edge [ source 1 target 2 ] edge [ source 2 target 4 ] edge [ source 2 target 3 ] edge [ source 1 target 3 ] edge [ source 3 target 4 ] ]\n";
 
 // One edge goes straight past both sides of a diamond.
 const CHORD: &[u8] =
     b"graph [ node [ id 1 ] node [ id 2 ] node [ id 3 ] node [ id 4 ] edge [ source 1 target 2 ] edge [ source 2 target 4 ] edge [ source 1 target 4 ] edge [ source 1 target 3 ] edge [ source 3 target 4 ] ]\n";
+
+const DIAMONDS: &[u8] =
+    b"graph [ node [ id 1 ] node [ id 2 ] node [ id 3 ] node [ id 4 ] node [ id 5 ] node [ id 6 ] node [ id 7 ] edge [ source 1 target 2 ] edge [ source 1 target 3 ] edge [ source 2 target 4 ] edge [ source 3 target 4 ] edge [ source 4 target 5 ] edge [ source 4 target 6 ] edge [ source 5 target 7 ] edge [ source 6 target 7 ] ]\n";
 
 const PAIR: &[u8] =
     b"graph [ node [ id 1 ] node [ id 2 ] edge [ source 1 target 2 ] edge [ source 1 target 2 ] ]\n";
@@ -34,7 +37,7 @@ const NESTED: &[u8] =
 
 /// What a run on a file has to give.
 #[derive(Clone, Copy)]
-struct Row {
+pub struct Row {
     words: &'static str,
     file: &'static [u8],
     status: Status,
@@ -42,7 +45,7 @@ struct Row {
     line: &'static [u8],
 }
 
-fn done(words: &'static str, file: &'static [u8], out: &'static [u8]) -> Row {
+pub fn done(words: &'static str, file: &'static [u8], out: &'static [u8]) -> Row {
     Row {
         words,
         file,
@@ -52,7 +55,12 @@ fn done(words: &'static str, file: &'static [u8], out: &'static [u8]) -> Row {
     }
 }
 
-fn refused(words: &'static str, file: &'static [u8], status: Status, line: &'static [u8]) -> Row {
+pub fn refused(
+    words: &'static str,
+    file: &'static [u8],
+    status: Status,
+    line: &'static [u8],
+) -> Row {
     Row {
         words,
         file,
@@ -79,7 +87,7 @@ pub fn words_of(alloc: Global, line: &str) -> Result<Vec<String>, AllocError> {
     Ok(words)
 }
 
-fn check(rt: &impl Abort, alloc: Global, row: &Row) -> Result<(), Fail> {
+pub fn check(rt: &impl Abort, alloc: Global, row: &Row) -> Result<(), Fail> {
     let words = words_of(alloc, row.words)?;
     let mut src = MemSource::new(alloc, row.file, 0, &[])?;
     let mut out = MemSink::new(alloc, 200, 0, &[])?;
@@ -123,6 +131,68 @@ fn says_which_vertex_reaches_which(rt: HostRuntime) -> Result<(), Fail> {
             "query -1 1",
             b"graph [ node [ id -1 ] node [ id 1 ] edge [ source 1 target -1 ] ]",
             b"-1 1 no 1 1 0 0\n",
+        ),
+    ];
+    for row in &rows {
+        check(&rt, rt.alloc(), row)?;
+    }
+    Ok(())
+}
+
+// In the last graph the first edge out of 1 misses the join with 2.
+#[test]
+fn tells_joins_and_meets(rt: HostRuntime) -> Result<(), Fail> {
+    let rows = [
+        done(
+            "join 2 3",
+            DIAMOND,
+            b"join 2 3 4\nwalk 2 4: 2\nwalk 3 4: 3\n",
+        ),
+        done(
+            "meet 2 3",
+            DIAMOND,
+            b"meet 2 3 1\nwalk 1 2: 0\nwalk 1 3: 1\n",
+        ),
+        done(
+            "join 2 7",
+            DIAMONDS,
+            b"join 2 7 7\nwalk 2 7: 2 4 6\nwalk 7 7:\n",
+        ),
+        done(
+            "join 2 3",
+            DIAMONDS,
+            b"join 2 3 4\nwalk 2 4: 2\nwalk 3 4: 3\n",
+        ),
+        done("meet 5 5", DIAMONDS, b"meet 5 5 5\nwalk 5 5:\nwalk 5 5:\n"),
+        done(
+            "join 1 2",
+            b"graph [ node [ id 0 ] node [ id 1 ] node [ id 2 ] node [ id 3 ] node [ id 4 ] edge [ source 0 target 1 ] edge [ source 0 target 2 ] edge [ source 1 target 4 ] edge [ source 1 target 3 ] edge [ source 2 target 3 ] edge [ source 3 target 4 ] ]",
+            b"join 1 2 3\nwalk 1 3: 3\nwalk 2 3: 4\n",
+        ),
+        refused(
+            "join 2 9",
+            DIAMOND,
+            Status::UnknownVertex,
+            b"unknown vertex: 9\n",
+        ),
+        refused(
+            "meet 9 8",
+            DIAMOND,
+            Status::UnknownVertex,
+            b"unknown vertex: 9\n",
+        ),
+        refused("join 2 3", CYCLE, Status::NotSt, b"not st: cycle: 0 1 2\n"),
+        refused(
+            "join 2",
+            DIAMOND,
+            Status::Words,
+            b"words: not a command of stdraw\n",
+        ),
+        refused(
+            "meet 1 2 3",
+            DIAMOND,
+            Status::Words,
+            b"words: not a command of stdraw\n",
         ),
     ];
     for row in &rows {
@@ -309,7 +379,7 @@ fn tests_for_planar_st_graphs(rt: HostRuntime) -> Result<(), Fail> {
     Ok(())
 }
 
-const HEADER: &str =
+pub const HEADER: &str =
     "%%EndComments\n/Helvetica findfont 10 scalefont setfont\n1 setlinewidth 1 setlinecap\n";
 
 // What a drawing of a file has to write: the box, the title, the lines behind the header.

@@ -1,31 +1,37 @@
 //! All that the program does.
-ghost use Rattle.std.specs.Prelude.{◌≡◌, ◌≢◌, ◌≤◌, ℕ, List, length, map, IfOk, IsErrOf};
+ghost use Rattle.std.specs.Prelude.{◌≡◌, ◌≢◌, ◌≤◌, ◌+◌, ℕ, List, length, map, IfOk, IsErrOf};
 ghost use Rattle.std.specs.String.{string_bytes};
 ghost use Rattle.st_port.specs.Faults.{GoesOn};
 ghost use Rattle.st_input.specs.InputGraph.{IsConsistent};
+ghost use Rattle.st_input.specs.Written.{IsWritable};
 ghost use Rattle.st_words.specs.Words.{IsTask, IsFileless};
 ghost use Rattle.st_verdict.specs.Stops.{Gives};
 ghost use Rattle.st_verdict.specs.Verdict.{IsFound};
 ghost use Rattle.stdraw_core.specs.Answer.{Answers, AnswersGraph};
 ghost use Rattle.stdraw_core.specs.Complete.{Complete};
 ghost use Rattle.stdraw_core.specs.Exact.{Exact};
-ghost use Rattle.stdraw_core.specs.Headline.{Headline, QueryHeadline};
-ghost use Rattle.stdraw_core.specs.Run.{Decides, EndsBy, Finds, TakesFew};
+ghost use Rattle.stdraw_core.specs.Headline.{CheckHeadline, Headline, LatticeHeadline, OrientHeadline, QueryHeadline};
+ghost use Rattle.stdraw_core.specs.Run.{Decides, EndsBy, Finds, TakesAtMost, TakesFew};
 
 use crate::bench::answer_bench;
+use crate::checked::answer_check;
 use crate::drawing::answer_draw;
 use crate::feeding::{feed, graph_from};
 use crate::generated::answer_gen;
+use crate::lattice::answer_lattice;
+use crate::oriented::answer_orient;
 use crate::output::Output;
 use crate::query::answer_query;
 use crate::tested::answer_test;
-use st_ids::limits::{MOST_EDGES, MOST_VERTICES};
+use st_bipolar::laws::{fault_forbids, lists_kept};
+use st_ids::limits::{MOST_BYTES, MOST_EDGES, MOST_VERTICES};
 use st_ids::{NoMemory, Text};
 use st_input::GraphSpec;
+use st_input::laws::{limits_hold, written_reads_back};
 use st_port::{Failed, ReadEnd, Sink, Source};
 use st_report::{Refusal, Status, Stop, report};
 use st_test::StGraph;
-use st_test::laws::one_poles_answer;
+use st_test::laws::{no_loop, one_poles_answer};
 use st_verdict::accept;
 use st_words::laws::one_task;
 use st_words::{Command, Task, task_of};
@@ -58,6 +64,9 @@ fn answer_command(
         Command::Query(pairs) => as_output(answer_query(alloc, spec, graph, pairs.items())),
         Command::Test => as_output(answer_test(alloc, spec, &graph)),
         Command::Draw(form) => answer_draw(alloc, *form, spec, graph),
+        Command::Lattice(op, from, to) => {
+            as_output(answer_lattice(alloc, spec, &graph, *op, *from, *to))
+        }
     }
 }
 
@@ -81,7 +90,8 @@ fn graph_of_source<S: Source>(alloc: Global, src: &mut S) -> Result<GraphSpec, S
     ensures consistent { IfOk result (λ g. IsConsistent g) }
     ensures high { IfOk result (λ g. g.graph.vertices ≤ MOST_VERTICES) }
     ensures wide { IfOk result (λ g. length g.graph.ends ≤ MOST_EDGES) }
-    ensures taken { TakesFew (S.state src.old).left (S.state src.new).left }
+    ensures writable { IfOk result (λ g. IsWritable g) }
+    ensures taken { TakesAtMost (MOST_BYTES + 4096) (S.state src.old).left (S.state src.new).left }
     ensures count { GoesOn (S.state src.old).faults (S.state src.new).faults }
 {
     let reader = match feed(alloc, src) {
@@ -97,7 +107,7 @@ fn graph_of_source<S: Source>(alloc: Global, src: &mut S) -> Result<GraphSpec, S
 fn answer_source<S: Source>(alloc: Global, command: &Command, src: &mut S) -> Result<Output, Stop>
     ensures decides { (words : List (List ℕ)) → IsTask words (Task.File command.now) → Decides words (S.state src.old) (S.state src.new) result }
     ensures never_words { IsErrOf result (Stop.Refused Refusal.Words) → ⊥ }
-    ensures taken { TakesFew (S.state src.old).left (S.state src.new).left }
+    ensures taken { TakesAtMost (MOST_BYTES + 4096) (S.state src.old).left (S.state src.new).left }
     ensures count { GoesOn (S.state src.old).faults (S.state src.new).faults }
 {
     let graph = match graph_of_source(alloc, src) {
@@ -107,13 +117,27 @@ fn answer_source<S: Source>(alloc: Global, command: &Command, src: &mut S) -> Re
     answer_graph(alloc, command, &graph)
 }
 
+// What an orientation answers to what the source has left. The tree of the file is dropped before the graph is oriented.
+fn orient_source<S: Source>(alloc: Global, from: i64, to: i64, src: &mut S) -> Result<Text, Stop>
+    ensures decides { (words : List (List ℕ)) → IsTask words (Task.Orient from to) → Decides words (S.state src.old) (S.state src.new) result }
+    ensures never_words { IsErrOf result (Stop.Refused Refusal.Words) → ⊥ }
+    ensures taken { TakesAtMost (MOST_BYTES + 4096) (S.state src.old).left (S.state src.new).left }
+    ensures count { GoesOn (S.state src.old).faults (S.state src.new).faults }
+{
+    let graph = match graph_of_source(alloc, src) {
+        Ok(graph) => graph,
+        Err(stop) => return Err(stop),
+    };
+    answer_orient(alloc, graph, from, to)
+}
+
 // What is answered to the words and to what the source has left.
 fn decide<S: Source>(alloc: Global, words: &[String], src: &mut S) -> Result<Output, Stop>
     ensures decides { Decides (map string_bytes words.now) (S.state src.old) (S.state src.new) result }
     ensures words { IsErrOf result (Stop.Refused Refusal.Words) → src.new ≡ src.old }
     ensures unasked { ((task : Task) → IsTask (map string_bytes words.now) task → ⊥) → src.new ≡ src.old }
     ensures generated { (task : Task) → IsTask (map string_bytes words.now) task → IsFileless task → src.new ≡ src.old }
-    ensures taken { TakesFew (S.state src.old).left (S.state src.new).left }
+    ensures taken { TakesFew (map string_bytes words.now) (S.state src.old).left (S.state src.new).left }
     ensures count { GoesOn (S.state src.old).faults (S.state src.new).faults }
 {
     one_task();
@@ -124,6 +148,8 @@ fn decide<S: Source>(alloc: Global, words: &[String], src: &mut S) -> Result<Out
     };
     match &task {
         Task::File(command) => answer_source(alloc, command, src),
+        Task::Check => as_output(answer_check(alloc, src)),
+        Task::Orient(from, to) => as_output(orient_source(alloc, *from, *to, src)),
         Task::Gen(recipe) => as_output(answer_gen(alloc, *recipe)),
         Task::Bench(recipe, form) => as_output(answer_bench(alloc, *recipe, *form)),
     }
@@ -142,7 +168,7 @@ fn perform<S: Source, K: Sink, D: Sink>(
     // What is left as it was, and what was taken.
     ensures words { result ≡ Status.Words → src.new ≡ src.old }
     ensures unasked { ((task : Task) → IsTask (map string_bytes words.now) task → ⊥) → src.new ≡ src.old }
-    ensures taken { TakesFew (S.state src.old).left (S.state src.new).left }
+    ensures taken { TakesFew (map string_bytes words.now) (S.state src.old).left (S.state src.new).left }
     ensures generated { (task : Task) → IsTask (map string_bytes words.now) task → IsFileless task → src.new ≡ src.old }
     ensures untouched { result ≢ Status.Done → result ≢ Status.WriteFault → out.new ≡ out.old }
     ensures quiet { result ≡ Status.Done → diag.new ≡ diag.old }
@@ -178,9 +204,12 @@ pub fn run<S: Source, K: Sink, D: Sink>(
 ) -> Status
     ensures ending { EndsBy (map string_bytes words.now) (S.state src.old) (S.state src.new) (K.state out.old) (K.state out.new) (D.state diag.old) (D.state diag.new) result }
 
-    // The promise of every drawing, and of every query.
+    // The promise of every drawing, of every query, of every bound, of every orientation and of every check.
     ensures headline { Headline (map string_bytes words.now) (S.state src.old) (S.state src.new) (K.state out.old) (K.state out.new) result }
     ensures query { QueryHeadline (map string_bytes words.now) (S.state src.old) (S.state src.new) (K.state out.old) (K.state out.new) result }
+    ensures lattice { LatticeHeadline (map string_bytes words.now) (S.state src.old) (S.state src.new) (K.state out.old) (K.state out.new) result }
+    ensures orient { OrientHeadline (map string_bytes words.now) (S.state src.old) (S.state src.new) (K.state out.old) (K.state out.new) result }
+    ensures check { CheckHeadline (map string_bytes words.now) (S.state src.old) (S.state src.new) (K.state out.old) (K.state out.new) result }
 
     // Status, line and output are those of the answer.
     ensures exact { Exact (map string_bytes words.now) (S.state src.old) (K.state out.old) (K.state out.new) (D.state diag.old) (D.state diag.new) result }
@@ -191,7 +220,7 @@ pub fn run<S: Source, K: Sink, D: Sink>(
     // What is left as it was, and what was taken.
     ensures words { result ≡ Status.Words → src.new ≡ src.old }
     ensures unasked { ((task : Task) → IsTask (map string_bytes words.now) task → ⊥) → src.new ≡ src.old }
-    ensures taken { TakesFew (S.state src.old).left (S.state src.new).left }
+    ensures taken { TakesFew (map string_bytes words.now) (S.state src.old).left (S.state src.new).left }
     ensures generated { (task : Task) → IsTask (map string_bytes words.now) task → IsFileless task → src.new ≡ src.old }
     ensures untouched { result ≢ Status.Done → result ≢ Status.WriteFault → out.new ≡ out.old }
     ensures quiet { result ≡ Status.Done → diag.new ≡ diag.old }
@@ -202,5 +231,10 @@ pub fn run<S: Source, K: Sink, D: Sink>(
     ensures diagnostic { GoesOn (D.state diag.old).faults (D.state diag.new).faults }
 {
     one_poles_answer();
+    fault_forbids();
+    lists_kept();
+    no_loop();
+    written_reads_back();
+    limits_hold();
     perform(alloc, words, src, out, diag)
 }
