@@ -1,8 +1,8 @@
 #!/usr/bin/env python3
 """counts.py [--write] [PROGRAM]: what runs of the built program cost, in counts that are the same on every machine.
 
-For `test`, each form of `draw` and a query of 1,000 pairs, on the graphs that `gen N 1` writes for 1,000, 5,000 and 20,000
-vertices: millions of instructions and blocks of memory (valgrind's callgrind), megabytes at the most, and writes (strace).
+For `test`, each form of `draw`, a query of 1,000 pairs and a join, on the graphs that `gen N 1` writes for 1,000, 5,000 and
+20,000 vertices, and for `check` of what `draw` writes of them: millions of instructions and blocks of memory (valgrind's callgrind), megabytes at the most (GNU time), and writes (strace).
 Each is compared with its bound in counts.txt, and a bound that is broken is named; the end is then 1. With --write the file is
 made anew, with each bound a twentieth above what was counted: do that with a change that is meant to cost more or less.
 """
@@ -19,7 +19,8 @@ PAIRS = [word for k in range(1, 1001) for word in ("1", str(k))]
 RUNS = {"test": ["test"], "visibility": ["draw", "visibility"], "tessellation": ["draw", "tessellation"],
         "constrained": ["draw", "constrained"], "polyline_left": ["draw", "polyline", "left"],
         "polyline_middle": ["draw", "polyline", "middle"], "polyline_right": ["draw", "polyline", "right"],
-        "dominance": ["draw", "dominance"], "query_1000": ["query"] + PAIRS}
+        "dominance": ["draw", "dominance"], "query_1000": ["query"] + PAIRS, "join": ["join", "3", "4"]}
+CHECKED = ("visibility", "tessellation", "polyline_middle", "dominance")
 SIZES = (1000, 5000, 20000)
 HEAD = "# run, vertices, then counted and bound of: millions of instructions, blocks, megabytes, writes. Made by counts.py --write."
 
@@ -52,9 +53,9 @@ def counted(program, words, graph, work):
                               stdout=subprocess.DEVNULL, stderr=subprocess.PIPE, text=True).stderr
     writes = next((int(line.split()[3]) for line in said.splitlines() if line.endswith(" write")), 0)
     with open(graph, "rb") as file:
-        child = subprocess.Popen([program, *words], stdin=file, stdout=subprocess.DEVNULL)
-        used = os.wait4(child.pid, 0)[2]
-    return round(millions, 1), blocks_in(out), round(used.ru_maxrss / 1024, 1), writes
+        said = subprocess.run(["/usr/bin/time", "-f", "%M", program, *words], stdin=file, stdout=subprocess.DEVNULL, stderr=subprocess.PIPE, text=True).stderr
+    kilobytes = int(said.split()[-1])
+    return round(millions, 1), blocks_in(out), round(kilobytes / 1024, 1), writes
 
 
 def bounds():
@@ -73,21 +74,27 @@ def main():
     writes_file = "--write" in sys.argv
     rest = [word for word in sys.argv[1:] if word != "--write"]
     program = os.path.abspath(rest[0] if rest else os.path.join(HERE, "../crates/stdraw/out/stdraw"))
-    for tool in ("valgrind", "strace"):
+    for tool in ("valgrind", "strace", "/usr/bin/time"):
         if not shutil.which(tool):
             sys.exit(f"counts: {tool} isn't installed, so nothing is counted")
     if not os.access(program, os.X_OK):
         sys.exit("counts: the program isn't built (./stdraw builds it)")
     known, broken, lines = bounds(), 0, [HEAD]
-    print(f"{'run':16} {'vertices':>8} {'M instructions':>15} {'blocks':>8} {'MB':>6} {'writes':>7}")
+    print(f"{'run':22} {'vertices':>8} {'M instructions':>15} {'blocks':>8} {'MB':>6} {'writes':>7}")
     with tempfile.TemporaryDirectory() as work:
         for size in SIZES:
             graph = os.path.join(work, "graph.gml")
             with open(graph, "wb") as file:
                 subprocess.run([program, "gen", str(size), "1"], stdout=file, check=True)
-            for run, words in RUNS.items():
-                got = counted(program, words, graph, work)
-                print(f"{run:16} {size:>8} {got[0]:>15} {got[1]:>8} {got[2]:>6} {got[3]:>7}")
+            runs = [(run, words, graph) for run, words in RUNS.items()]
+            for form in CHECKED:
+                drawing = os.path.join(work, form + ".eps")
+                with open(drawing, "wb") as file, open(graph, "rb") as source:
+                    subprocess.run([program, *RUNS[form]], stdin=source, stdout=file, check=True)
+                runs.append(("check_" + form, ["check"], drawing))
+            for run, words, file in runs:
+                got = counted(program, words, file, work)
+                print(f"{run:22} {size:>8} {got[0]:>15} {got[1]:>8} {got[2]:>6} {got[3]:>7}")
                 for what, number, bound in zip(("instructions", "blocks", "megabytes", "writes"), got, known.get((run, size), [])):
                     if number > bound and not writes_file:
                         print(f"counts: {run} at {size} vertices: {number} {what}, and the bound is {bound}")

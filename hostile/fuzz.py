@@ -1,7 +1,7 @@
 #!/usr/bin/env python3
 """fuzz.py SEED COUNT [PROGRAM] [JOBS]: makes COUNT files from a seed, and runs every command on each.
 
-A file is an example or a generated graph that was damaged: cut off, doubled, bytes turned, keys exchanged, numbers put to
+A file is an example, a graph or a drawing, or a generated graph that was damaged: cut off, doubled, bytes turned, keys exchanged, numbers put to
 their limits, an edge too many, an order turned round. A run is wrong where it ends by a signal, takes longer than the
 bound, has a status that no table names, a line that no table has, a line that isn't the status's, an output beside a status
 that isn't 0, or none beside 0. It prints how often each status came, and each wrong run with its file's number, so that
@@ -20,7 +20,8 @@ import tempfile
 TOP = os.path.dirname(os.path.dirname(os.path.abspath(__file__)))
 SECONDS = 5
 COMMANDS = [["test"], ["query", "1", "2", "0", "1"], ["draw", "visibility"], ["draw", "tessellation"], ["draw", "constrained"],
-            ["draw", "polyline", "left"], ["draw", "polyline", "middle"], ["draw", "polyline", "right"], ["draw", "dominance"]]
+            ["draw", "polyline", "left"], ["draw", "polyline", "middle"], ["draw", "polyline", "right"], ["draw", "dominance"],
+            ["join", "1", "2"], ["meet", "2", "0"], ["orient", "1", "2"], ["check"]]
 NUMBER = r"-?[0-9]+"
 # The lines of each status.
 LINES = {
@@ -34,6 +35,9 @@ LINES = {
     8: [f"path: [0-9]+ names unknown edge {NUMBER}", "path: [0-9]+ is no directed path", f"path: [0-9]+ shares edge {NUMBER}",
         f"path: [0-9]+ crosses path [0-9]+ at vertex {NUMBER}"],
     9: [f"unknown vertex: {NUMBER}"],
+    10: ["not clean: item [0-9]+", "not clean: items [0-9]+ and [0-9]+", "not clean: area"],
+    11: ["eps: bad line [0-9]+"],
+    13: ["no orientation: one vertex for both poles", f"no orientation: (edge {NUMBER} is a loop|vertex {NUMBER} is apart|vertex {NUMBER} cuts off vertex {NUMBER})"],
 }
 LINE_OF = {status: re.compile(("(" + "|".join(lines) + ")\n").encode()) for status, lines in LINES.items()}
 WORDS = [b"graph", b"node", b"edge", b"id", b"source", b"target", b"label", b"order", b"outer", b"path", b"e", b"side", b"[", b"]", b'"', b"-",
@@ -43,7 +47,8 @@ WORDS = [b"graph", b"node", b"edge", b"id", b"source", b"target", b"label", b"or
 def seeds(program):
     """The texts that are damaged."""
     texts = []
-    for name in sorted(glob.glob(os.path.join(TOP, "examples", "**", "*.gml"), recursive=True)):
+    names = [name for kind in ("gml", "eps") for name in sorted(glob.glob(os.path.join(TOP, "examples", "**", "*." + kind), recursive=True))]
+    for name in names:
         with open(name, "rb") as file:
             texts.append(file.read())
     for vertices in (2, 3, 5, 8, 13, 30):

@@ -24,7 +24,8 @@ ROWS = [
     ("draw polyline right", "flow_chart"), ("draw dominance", "divisors"), ("test", "err_cycle"), ("test", "err_two_sources"),
     ("test", "err_order"), ("test", "err_faces"), ("test", "err_outer"), ("draw constrained", "err_path_crossing"),
     ("draw constrained", "err_path_unknown"), ("query 1 9", "err_unknown_vertex"), ("query 1 1", "err_unclosed"),
-    ("test", "from/yed"), ("gen 50 1", None), ("bench 50 1 dominance", None), ("draw circle", None),
+    ("test", "from/yed"), ("join 4 6", "divisors"), ("meet 12 18", "divisors"), ("orient 2 3", "diamond"), ("orient 1 2", "chain"), ("check", "divisors.dominance.eps"),
+    ("check", "circuit.tessellation.eps"), ("check", "err_crossing_lines.eps"), ("check", "err_no_drawing.eps"), ("gen 50 1", None), ("bench 50 1 dominance", None), ("draw circle", None),
 ]
 
 
@@ -39,7 +40,7 @@ def allocations(program, library, work):
     """Refuses each allocation of each row in turn, and answers the ways in which runs ended, and what went wrong."""
     ways, wrong = collections.Counter(), []
     for words, name in ROWS:
-        file = os.path.join(EXAMPLES, name + ".gml") if name else None
+        file = os.path.join(EXAMPLES, name if name.endswith(".eps") else name + ".gml") if name else None
         count = os.path.join(work, "count")
         env = dict(os.environ, LD_PRELOAD=library, REFUSE_AT="0", REFUSE_COUNT=count)
         whole = run(program, words, file, env)

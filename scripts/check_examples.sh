@@ -4,7 +4,8 @@
 #   NAME.words   the words, `query 1 1` where it isn't there
 #   NAME.out     the whole output: then the status is 0 and no line is written
 #   NAME.line    the diagnostic line: then the output is empty, and the status is the line's
-#   NAME.FORM.eps   what `draw FORM` writes, with a space for each `_` of FORM
+#   NAME.FORM.eps   what `draw FORM` writes, with a space for each `_` of FORM; `check` has to find it clean
+#   NAME.eps     a drawing that `check` refuses with NAME.line
 # Ends with 0 where all agree, and where the program isn't built. STDRAW names another program to be asked, by its whole
 # path.
 top=$(CDPATH='' cd "$(dirname "$0")/.." && pwd) || exit 1
@@ -30,6 +31,9 @@ status_of() {
         "limit: "*) echo 4 ;;
         "path: "*) echo 8 ;;
         "unknown vertex: "*) echo 9 ;;
+        "no orientation: "*) echo 13 ;;
+        "not clean: "*) echo 10 ;;
+        "eps: "*) echo 11 ;;
         *) echo none ;;
     esac
 }
@@ -71,6 +75,16 @@ done
 for wanted in "$top"/examples/*.eps; do
     [ -e "$wanted" ] || continue
     name=$(basename "$wanted" .eps)
+    "$program" check <"$wanted" >"$work/out" 2>"$work/line"
+    got=$?
+    tried=$((tried + 1))
+    if [ -e "$top/examples/$name.line" ]; then
+        [ "$got" = "$(status_of "$(cat "$top/examples/$name.line")")" ] || say "check of $name ends with $got"
+        cmp -s "$work/line" "$top/examples/$name.line" || say "check of $name has another diagnostic line"
+        grep -q "^| \`$name.eps\` " "$top/examples/README.md" || say "$name.eps has no line in examples/README.md"
+        continue
+    fi
+    [ "$got" = 0 ] || say "check of $name ends with $got"
     form=$(echo "${name#*.}" | tr _ ' ')
     # A form may be two words.
     # shellcheck disable=SC2086
