@@ -5,7 +5,8 @@ use Rattle.std.proofs.lemmas.Bool.{cases_eq, both_ways}
 use Rattle.st_ids.specs.Graph.{Graph, HasEnds}
 use Rattle.st_bipolar.specs.Search.{level, HasNoJoint}
 use Rattle.st_bipolar.specs.Faults.{AreBranches, IsFirstApart, IsFirstJoint, IsJoint, IsKept, IsOff, IsSecond, IsSpread, is_marked}
-use Rattle.st_bipolar.specs.Undirected.{CutsOff, HasAll, IsConnected, IsFirstCut, IsStNumbering, IsVisited, Joined, Meets}
+use Rattle.st_ids.specs.Undirected.{IsConnected, IsJoined}
+use Rattle.st_bipolar.specs.Cuts.{CutsOff, HasAll, IsFirstCut, IsStNumbering, IsVisited, Meets}
 use Rattle.st_map.specs.Orders.{HasNoLoop}
 use Rattle.st_bipolar.specs.Ordering.{IsRanked, IsTree}
 use Rattle.st_bipolar.specs.Numbering.{AreNumbers}
@@ -15,8 +16,8 @@ use Rattle.st_bipolar.proofs.VisitedLemmas.{visited_law, cuts, whole, is_joined,
 module _ (g : Graph) (s t : ℕ) (vs parent low : List ℕ) (V : IsVisited g s t vs parent low) where
   -- ---- apart
   module _ (starts marks : List Bool) (B : IsSecond (slice_index low) starts) (M : IsSpread (length vs) (slice_index parent) starts marks) where
-    kept_joined : (v : ℕ) → IsKept vs marks v → Joined g (λ _. Unit {0}) v s
-    kept_joined v h = subst (λ z. Joined g (λ _. Unit {0}) z s) h.2 (is_joined g s t vs parent low V h.0 h.1 (elim (cases_eq (slice_index low 1) 0) [
+    kept_joined : (v : ℕ) → IsKept vs marks v → IsJoined g (λ _. Unit {0}) v s
+    kept_joined v h = subst (λ z. IsJoined g (λ _. Unit {0}) z s) h.2 (is_joined g s t vs parent low V h.0 h.1 (elim (cases_eq (slice_index low 1) 0) [
       | inl e ↦ inr e
       | inr d ↦ inl (λ a. both_ways (is_marked marks h.0) h.3 (M.all 1 h.0 h.1 (B.all d) a))
     ]))

@@ -10,7 +10,8 @@ use Rattle.st_map.specs.Embedded.{Embedded, HasOrders, Touches, bare, darts, edg
 use Rattle.st_map.proofs.SumLemmas.{count-le}
 use Rattle.st_map.proofs.OrbitLemmas.{some_or_none}
 use Rattle.st_test.specs.Planar.{IsPlanarSt}
-use Rattle.st_bipolar.specs.Undirected.{Joins, Trail, rest, pass, Joined, CutsOff, IsConnected, IsStNumbering}
+use Rattle.st_ids.specs.Undirected.{Joins, UndirectedWalk, rest, pass, IsJoined, IsConnected}
+use Rattle.st_bipolar.specs.Cuts.{CutsOff, IsStNumbering}
 use Rattle.st_bipolar.specs.Orientation.{IsOrientation, IsPlane, IsTurned, OrientLaw, falls, turned_end}
 use Rattle.std.specs.Prelude.{slice_index, cond}
 use Rattle.st_ids.specs.Ends.{edge_of, twin}
@@ -57,11 +58,11 @@ module _ (g : Embedded) (s t outer : ℕ) (st : IsPlanarSt g s t outer) where
       go es (step {e = e} {es = ds} a f w) = absurd (no_loop st_acyclic e a (reach_trans (record { way = ds; walk = w }) (reach_trans k (reach_refl (sym f)))))
 
 -- ---- undirected walks
-trail_turn : {g : Graph} {Ok : ℕ → Type 0} {u v w : ℕ} (es acc : List ℕ) → Trail g Ok u es v → Trail g Ok u acc w → Trail g Ok v (turn es acc) w
-trail_turn {g} {Ok} {u} {v} {w} [] acc (rest o q) k = subst (λ z. Trail g Ok z acc w) q k
+trail_turn : {g : Graph} {Ok : ℕ → Type 0} {u v w : ℕ} (es acc : List ℕ) → UndirectedWalk g Ok u es v → UndirectedWalk g Ok u acc w → UndirectedWalk g Ok v (turn es acc) w
+trail_turn {g} {Ok} {u} {v} {w} [] acc (rest o q) k = subst (λ z. UndirectedWalk g Ok z acc w) q k
 trail_turn (e ∷ es) acc (pass o j r) k = trail_turn es (e ∷ acc) r (pass (trail_ok r) (flip j) k)
 
-joined_back : {g : Graph} {Ok : ℕ → Type 0} {u v : ℕ} → Joined g Ok u v → Joined g Ok v u
+joined_back : {g : Graph} {Ok : ℕ → Type 0} {u v : ℕ} → IsJoined g Ok u v → IsJoined g Ok v u
 joined_back J = record { way = turn J.way []; trail = trail_turn J.way [] J.trail (rest (trail_ok J.trail) refl) }
 
 joins_two : {g : Graph} {e a b v w : ℕ} → Joins g e a b → Joins g e v w → ((a ≡ v) × (b ≡ w)) ⊎ ((a ≡ w) × (b ≡ v))
@@ -174,11 +175,11 @@ module _ (g : Embedded) (s t outer : ℕ) (P : IsPlane g s t outer) where
     joins : (e : ℕ) → e < edges h → Joins (bare g) e (tail h e) (head h e)
     joins e l = joins_h g b h T e (let z : edges h ≡ edges g = edges_h g b h T in omega arith)
 
-    trail_of : {u v : ℕ} {es : List ℕ} → Walk (arcs_of (bare h)) u es v → Trail (bare g) (λ _. Unit {0}) u es v
+    trail_of : {u v : ℕ} {es : List ℕ} → Walk (arcs_of (bare h)) u es v → UndirectedWalk (bare g) (λ _. Unit {0}) u es v
     trail_of (stay e) = rest tt e
     trail_of (step {e = e} l f w) = pass tt (subst (λ z. Joins (bare g) e z (head h e)) f (joins e l)) (trail_of w)
 
-    avoids : (c : ℕ) {u v : ℕ} {es : List ℕ} → Walk (arcs_of (bare h)) u es v → Joined (bare g) (λ x. x ≢ c) u v ⊎ (Reaches (arcs_of (bare h)) u c × Reaches (arcs_of (bare h)) c v)
+    avoids : (c : ℕ) {u v : ℕ} {es : List ℕ} → Walk (arcs_of (bare h)) u es v → IsJoined (bare g) (λ x. x ≢ c) u v ⊎ (Reaches (arcs_of (bare h)) u c × Reaches (arcs_of (bare h)) c v)
     avoids c {u} {v} (stay e) = elim (cases_eq u c) [
       | inl q ↦ inr (reach_refl q, reach_refl (sym q ∙ e))
       | inr n ↦ inl (record { way = []; trail = rest n e })
@@ -197,7 +198,7 @@ module _ (g : Embedded) (s t outer : ℕ) (P : IsPlane g s t outer) where
     is_connected : IsConnected (bare g) s
     is_connected v l = (let w = st_from_source h s t (turned_end b outer) st v (vertices_in v l) in joined_back (record { way = w.way; trail = trail_of w.walk }))
 
-    way_out : (c v : ℕ) → v < g.vertices → v ≢ c → Joined (bare g) (λ x. x ≢ c) v s ⊎ Joined (bare g) (λ x. x ≢ c) v t
+    way_out : (c v : ℕ) → v < g.vertices → v ≢ c → IsJoined (bare g) (λ x. x ≢ c) v s ⊎ IsJoined (bare g) (λ x. x ≢ c) v t
     way_out c v lv n =
         let w = st_from_source h s t (turned_end b outer) st v (vertices_in v lv) in
         let z = st_to_sink h s t (turned_end b outer) st v (vertices_in v lv) in

@@ -13,7 +13,7 @@ use Rattle.st_map.proofs.EndLemmas.{even_or_odd, at-tail, at-head, edge_of-tail,
 use Rattle.st_map.proofs.RotationLemmas.{phi-permutes}
 use Rattle.st_map.proofs.EndLemmas.{at_below}
 use Rattle.st_bipolar.specs.Orientation.{turned_end, turned, IsTurned}
-use Rattle.st_bipolar.specs.Undirected.{Joins}
+use Rattle.st_ids.specs.Undirected.{Joins}
 use Rattle.st_bipolar.proofs.RootLemmas.{roots, fewer}
 
 -- the ends of g with the numbers that q gives them are the ends of h, and i takes them back

@@ -7,7 +7,8 @@ use Rattle.st_ids.specs.Graph.{Graph, HasEnds, tail_of, head_of}
 use Rattle.st_map.specs.Orders.{HasNoLoop}
 use Rattle.st_bipolar.specs.Search.{Above, HasNoJoint, IsApart}
 use Rattle.st_bipolar.specs.Places.{IsOrdered}
-use Rattle.st_bipolar.specs.Undirected.{Joins, Trail, rest, pass, Joined, IsConnected, CutsOff, IsStNumbering, Meets, IsVisited, HasAll}
+use Rattle.st_ids.specs.Undirected.{Joins, UndirectedWalk, rest, pass, IsJoined, IsConnected}
+use Rattle.st_bipolar.specs.Cuts.{CutsOff, IsStNumbering, Meets, IsVisited, HasAll}
 use Rattle.st_bipolar.specs.Laws.{VisitedLaw}
 use Rattle.st_bipolar.proofs.OrderedLemmas.{ordered}
 use Rattle.st_bipolar.proofs.AboveLemmas.{above_le, above_dec}
@@ -23,16 +24,16 @@ joins_in {g} {e} E j = elim j.ends [
   | inr p ↦ subst (λ z. z < g.vertices) p.1 (E e j.arc).0
 ]
 
-pub trail_ok : {g : Graph} {Ok : ℕ → Type 0} {u v : ℕ} {es : List ℕ} → Trail g Ok u es v → Ok u
+pub trail_ok : {g : Graph} {Ok : ℕ → Type 0} {u v : ℕ} {es : List ℕ} → UndirectedWalk g Ok u es v → Ok u
 trail_ok (rest o q) = o
 trail_ok (pass o j r) = o
 
 -- an edge at either end of a walk
-pub first_edge : {g : Graph} {Ok : ℕ → Type 0} (u v : ℕ) (es : List ℕ) → Trail g Ok u es v → u ≢ v → (e : ℕ) × (w : ℕ) × Joins g e u w
+pub first_edge : {g : Graph} {Ok : ℕ → Type 0} (u v : ℕ) (es : List ℕ) → UndirectedWalk g Ok u es v → u ≢ v → (e : ℕ) × (w : ℕ) × Joins g e u w
 first_edge u v es (rest o q) d = absurd (d q)
 first_edge u v es (pass {w = w} {e = e} o j r) d = (e, w, j)
 
-pub last_edge : {g : Graph} {Ok : ℕ → Type 0} (u v : ℕ) (es : List ℕ) → Trail g Ok u es v → u ≢ v → (e : ℕ) × (w : ℕ) × Joins g e v w
+pub last_edge : {g : Graph} {Ok : ℕ → Type 0} (u v : ℕ) (es : List ℕ) → UndirectedWalk g Ok u es v → u ≢ v → (e : ℕ) × (w : ℕ) × Joins g e v w
 last_edge u v es (rest o q) d = absurd (d q)
 last_edge {g} u v es (pass {w = w} {e = e} {es = ds} o j r) d = elim (cases_eq w v) [
   | inl q ↦ (e, u, subst (λ z. Joins g e z u) q (flip j))
@@ -75,13 +76,13 @@ module _ (g : Graph) (s t : ℕ) (vs parent low : List ℕ) (V : IsVisited g s t
     | inr o ↦ elim o [ inl a ↦ V.apart i k a lk e | inr b ↦ V.apart k i b li (sym e) ]
   ]
 
-  trail_of : (c z u : ℕ) → c < length vs → u < length vs → Path (length vs) (Meets g vs) (λ x. x ≢ c) z u → Joined g (λ x. x ≢ get_or vs c 0) (get_or vs u 0) (get_or vs z 0)
+  trail_of : (c z u : ℕ) → c < length vs → u < length vs → Path (length vs) (Meets g vs) (λ x. x ≢ c) z u → IsJoined g (λ x. x ≢ get_or vs c 0) (get_or vs u 0) (get_or vs z 0)
   trail_of c z u lc l (stop o e) = record { way = []; trail = rest (vertex_apart u c l lc o) (ap (λ x. get_or vs x 0) e) }
   trail_of c z u lc l (go {w = w} o lw h r) =
       let T = trail_of c z w lc lw r in
       record { way = h.0 ∷ T.way; trail = pass (vertex_apart u c l lc o) h.1 T.trail }
 
-  path_of : (c z u y v : ℕ) (es : List ℕ) → c < length vs → u < length vs → y ≡ get_or vs u 0 → z < length vs → v ≡ get_or vs z 0 → Trail g (λ x. x ≢ get_or vs c 0) y es v
+  path_of : (c z u y v : ℕ) (es : List ℕ) → c < length vs → u < length vs → y ≡ get_or vs u 0 → z < length vs → v ≡ get_or vs z 0 → UndirectedWalk g (λ x. x ≢ get_or vs c 0) y es v
       → Path (length vs) (Meets g vs) (λ x. x ≢ c) z u
   path_of c z u y v [] lc l e lz f (rest o q) = stop (λ k. o (e ∙ ap (λ x. get_or vs x 0) k)) (elim (cases_eq u z) [ inl k ↦ k | inr d ↦ absurd (vertex_apart u z l lz d (sym e ∙ q ∙ f)) ])
   path_of c z u y v (d ∷ ds) lc l e lz f (pass {w = w} o j r) =
@@ -115,8 +116,8 @@ module _ (g : Graph) (s t : ℕ) (vs parent low : List ℕ) (V : IsVisited g s t
   pub whole : (c v : ℕ) → c < length vs → v < length vs → CutsOff g s t (get_or vs c 0) (get_or vs v 0) → (IsApart (length vs) (slice_index parent) (slice_index low) c v → ⊥) → ⊥
   whole c v lc l C off =
       elim (out (length vs) (Meets g vs) (slice_index parent) (slice_index low) V.search V.lows c v l (λ e. C.not_cut (ap (λ x. get_or vs x 0) e)) off) [
-        | inl w ↦ C.no_s (subst (λ z. Joined g (λ x. x ≢ get_or vs c 0) (get_or vs v 0) z) V.source (trail_of c 0 v lc l w))
-        | inr w ↦ C.no_t (subst (λ z. Joined g (λ x. x ≢ get_or vs c 0) (get_or vs v 0) z) V.sink (trail_of c 1 v lc l w))
+        | inl w ↦ C.no_s (subst (λ z. IsJoined g (λ x. x ≢ get_or vs c 0) (get_or vs v 0) z) V.source (trail_of c 0 v lc l w))
+        | inr w ↦ C.no_t (subst (λ z. IsJoined g (λ x. x ≢ get_or vs c 0) (get_or vs v 0) z) V.sink (trail_of c 1 v lc l w))
       ]
 
   -- where no vertex is a joint, none cuts off another
@@ -131,13 +132,13 @@ module _ (g : Graph) (s t : ℕ) (vs parent low : List ℕ) (V : IsVisited g s t
       omega arith)
 
   -- ---- what is joined to the first pole
-  trail_any : (z u : ℕ) → u < length vs → Path (length vs) (Meets g vs) (λ _. Unit {0}) z u → Joined g (λ _. Unit {0}) (get_or vs u 0) (get_or vs z 0)
+  trail_any : (z u : ℕ) → u < length vs → Path (length vs) (Meets g vs) (λ _. Unit {0}) z u → IsJoined g (λ _. Unit {0}) (get_or vs u 0) (get_or vs z 0)
   trail_any z u l (stop o e) = record { way = []; trail = rest tt (ap (λ x. get_or vs x 0) e) }
   trail_any z u l (go {w = w} o lw h r) =
       let T = trail_any z w lw r in
       record { way = h.0 ∷ T.way; trail = pass tt h.1 T.trail }
 
-  path_any : (z u y v : ℕ) (es : List ℕ) → u < length vs → y ≡ get_or vs u 0 → z < length vs → v ≡ get_or vs z 0 → Trail g (λ _. Unit {0}) y es v → Path (length vs) (Meets g vs) (λ _. Unit {0}) z u
+  path_any : (z u y v : ℕ) (es : List ℕ) → u < length vs → y ≡ get_or vs u 0 → z < length vs → v ≡ get_or vs z 0 → UndirectedWalk g (λ _. Unit {0}) y es v → Path (length vs) (Meets g vs) (λ _. Unit {0}) z u
   path_any z u y v [] l e lz f (rest o q) = stop tt (elim (cases_eq u z) [ inl k ↦ k | inr d ↦ absurd (vertex_apart u z l lz d (sym e ∙ q ∙ f)) ])
   path_any z u y v (d ∷ ds) l e lz f (pass {w = w} o j r) =
       let k : Joins g d (get_or vs u 0) w = subst (λ x. Joins g d x w) e j in
@@ -145,14 +146,14 @@ module _ (g : Graph) (s t : ℕ) (vs parent low : List ℕ) (V : IsVisited g s t
       go tt h.1 (d, subst (λ x. Joins g d (get_or vs u 0) x) (sym h.2) k) (path_any z h.0 w v ds h.1 (sym h.2) lz f r)
 
   -- what a walk joins to a visited vertex was visited
-  reached : (y v : ℕ) (es : List ℕ) → Trail g (λ _. Unit {0}) y es v → (z : ℕ) → z < length vs → get_or vs z 0 ≡ v → (k : ℕ) × (k < length vs) × (get_or vs k 0 ≡ y)
+  reached : (y v : ℕ) (es : List ℕ) → UndirectedWalk g (λ _. Unit {0}) y es v → (z : ℕ) → z < length vs → get_or vs z 0 ≡ v → (k : ℕ) × (k < length vs) × (get_or vs k 0 ≡ y)
   reached y v es (rest o q) z l e = (z, l, e ∙ sym q)
   reached y v es (pass {w = w} {e = d} {es = ds} o j r) z l e =
       let h = reached w v ds r z l e in
       V.closed h.0 d y h.1 (subst (λ x. Joins g d x y) (sym h.2) (flip j))
 
-  pub is_joined : (k : ℕ) → k < length vs → (Above (slice_index parent) 1 k → ⊥) ⊎ (slice_index low 1 ≡ 0) → Joined g (λ _. Unit {0}) (get_or vs k 0) s
-  is_joined k l h = subst (λ z. Joined g (λ _. Unit {0}) (get_or vs k 0) z) V.source (trail_any 0 k l (elim h [
+  pub is_joined : (k : ℕ) → k < length vs → (Above (slice_index parent) 1 k → ⊥) ⊎ (slice_index low 1 ≡ 0) → IsJoined g (λ _. Unit {0}) (get_or vs k 0) s
+  is_joined k l h = subst (λ z. IsJoined g (λ _. Unit {0}) (get_or vs k 0) z) V.source (trail_any 0 k l (elim h [
     | inl off ↦ path_beside (length vs) (Meets g vs) (slice_index parent) (slice_index low) V.search V.lows k l off
     | inr z ↦ elim (above_dec (length vs) (Meets g vs) (slice_index parent) V.search 1 k l) [
       | inl a ↦ path_below (length vs) (Meets g vs) (slice_index parent) (slice_index low) V.search V.lows k l z a
@@ -161,7 +162,7 @@ module _ (g : Graph) (s t : ℕ) (vs parent low : List ℕ) (V : IsVisited g s t
   ]))
 
   -- what isn't visited, or is below 1 where its low point isn't 0, is apart
-  pub is_apart : (v : ℕ) → ((k : ℕ) → k < length vs → get_or vs k 0 ≡ v → Above (slice_index parent) 1 k × (slice_index low 1 ≢ 0)) → Joined g (λ _. Unit {0}) v s → ⊥
+  pub is_apart : (v : ℕ) → ((k : ℕ) → k < length vs → get_or vs k 0 ≡ v → Above (slice_index parent) 1 k × (slice_index low 1 ≢ 0)) → IsJoined g (λ _. Unit {0}) v s → ⊥
   is_apart v off J =
       let h = reached v s J.way J.trail 0 (omega (arith, two)) V.source in
       let o = off h.0 h.1 h.2 in
@@ -177,8 +178,8 @@ module _ (g : Graph) (s t : ℕ) (vs parent low : List ℕ) (V : IsVisited g s t
     poles : t ≢ s
     poles e = vertex_apart 1 0 (omega (arith, two)) (omega (arith, two)) (λ h. omega arith) (V.sink ∙ e ∙ sym V.source)
 
-    way : Joined g (λ _. Unit {0}) t s
-    way = subst (λ z. Joined g (λ _. Unit {0}) z s) V.sink (connected (get_or vs 1 0) (V.within 1 (omega (arith, two))))
+    way : IsJoined g (λ _. Unit {0}) t s
+    way = subst (λ z. IsJoined g (λ _. Unit {0}) z s) V.sink (connected (get_or vs 1 0) (V.within 1 (omega (arith, two))))
 
     from_s : (e w : ℕ) → Joins g e s w → r s < r w
     from_s e w j =

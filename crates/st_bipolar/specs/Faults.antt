@@ -11,7 +11,7 @@
 use Rattle.std.specs.Prelude.{ℕ, ◌≡◌, ◌≢◌, ◌<◌, ◌≤◌, Bool, true, false, List, length, slice_index, slice_index_or}
 use Rattle.st_ids.specs.Graph.{Graph}
 use Rattle.st_bipolar.specs.Search.{Above}
-use Rattle.st_bipolar.specs.Undirected.{Joined}
+use Rattle.st_ids.specs.Undirected.{IsJoined}
 
 abbrev pub is_marked : List Bool → ℕ → Bool
 is_marked marks k = slice_index_or marks k false
@@ -37,8 +37,8 @@ pub record IsFirstJoint (vs : List ℕ) (p low : ℕ → ℕ) (j : ℕ) : Type 0
 -- the first vertex that no undirected walk joins to s
 pub record IsFirstApart (g : Graph) (s v : ℕ) : Type 0 where
   pub within : v < g.vertices
-  pub apart : Joined g (λ _. Unit {0}) v s → ⊥
-  pub first : (u : ℕ) → u < v → Joined g (λ _. Unit {0}) u s
+  pub apart : IsJoined g (λ _. Unit {0}) v s → ⊥
+  pub first : (u : ℕ) → u < v → IsJoined g (λ _. Unit {0}) u s
 
 -- the marks are those of the children of j, from 2 on, whose low point is j
 pub record AreBranches (n : ℕ) (p low : ℕ → ℕ) (j : ℕ) (marks : List Bool) : Type 0 where

@@ -4,7 +4,8 @@ use Rattle.st_ids.specs.Graph.{Graph, HasEnds}
 use Rattle.st_map.specs.Orders.{HasNoLoop}
 use Rattle.st_bipolar.specs.Search.{HasNoJoint, IsApart}
 use Rattle.st_bipolar.specs.Places.{IsBalanced, IsPlaced}
-use Rattle.st_bipolar.specs.Undirected.{CutsOff, HasAll, IsConnected, IsStNumbering}
+use Rattle.st_ids.specs.Undirected.{IsConnected}
+use Rattle.st_bipolar.specs.Cuts.{CutsOff, HasAll, IsStNumbering}
 
 -- the table has the place of each element of the list
 abbrev pub AreRanks : List ℕ → List ℕ → Type 0

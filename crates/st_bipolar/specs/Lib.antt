@@ -1,6 +1,6 @@
 pub mod Search
 pub mod Places
-pub mod Undirected
+pub mod Cuts
 pub mod Visits
 pub mod Laws
 pub mod SearchState

@@ -15,7 +15,8 @@ use Rattle.st_ids.specs.Graph.{HasEnds}
 use Rattle.st_map.specs.Embedded.{Embedded, HasOrders, Touches, bare, darts, edges, faces, head, order, tail}
 use Rattle.st_map.specs.Orders.{HasNoLoop}
 use Rattle.st_test.specs.Planar.{IsPlanarSt}
-use Rattle.st_bipolar.specs.Undirected.{CutsOff, IsConnected, IsStNumbering}
+use Rattle.st_ids.specs.Undirected.{IsConnected}
+use Rattle.st_bipolar.specs.Cuts.{CutsOff, IsStNumbering}
 
 -- the number of an end after the edges e with b e have been turned
 abbrev pub turned_end : (ℕ → Bool) → ℕ → ℕ

@@ -6,7 +6,7 @@ use Rattle.std.specs.Prelude.{ℕ, length, slice_index}
 use Rattle.st_ids.specs.Graph.{Graph}
 use Rattle.st_bipolar.specs.declared.searching.Visit.{Visit}
 use Rattle.st_bipolar.specs.Search.{HasNoJoint}
-use Rattle.st_bipolar.specs.Undirected.{IsVisited}
+use Rattle.st_bipolar.specs.Cuts.{IsVisited}
 
 abbrev pub first_pole : Visit → ℕ
 first_pole visit = slice_index visit.vertices.items 0

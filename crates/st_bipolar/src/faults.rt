@@ -2,7 +2,8 @@
 ghost use Rattle.std.specs.Prelude.{◌≡◌, ◌≢◌, ◌+◌, ◌<◌, ◌≤◌, ◌^◌, ℕ, true, false, length, slice_index, IfOk, IfSome, IfNone, MatchOption, ◌⊎◌, vec_len};
 ghost use Rattle.st_map.specs.Embedded.{bare};
 ghost use Rattle.st_bipolar.specs.Faults.{AreBranches, IsSecond, IsFirstApart, IsFirstJoint, IsJoint, IsKept, IsOff, IsSpread, is_marked};
-ghost use Rattle.st_bipolar.specs.Undirected.{HasAll, IsConnected, IsFirstCut};
+ghost use Rattle.st_ids.specs.Undirected.{IsConnected};
+ghost use Rattle.st_bipolar.specs.Cuts.{HasAll, IsFirstCut};
 ghost use Rattle.st_bipolar.specs.Visits.{HasNoJointBy, IsVisitBy, first_pole, second_pole};
 
 use crate::searching::Visit;

@@ -2,7 +2,7 @@
 ghost use Rattle.std.specs.Prelude.{◌≢◌, ℕ, Bool, List};
 ghost use Rattle.st_ids.specs.Graph.{Graph};
 ghost use Rattle.st_map.specs.Embedded.{Embedded};
-ghost use Rattle.st_bipolar.specs.Undirected.{IsVisited};
+ghost use Rattle.st_bipolar.specs.Cuts.{IsVisited};
 ghost use Rattle.st_bipolar.specs.Kept.{OrientationKeepsLists};
 ghost use Rattle.st_bipolar.specs.Laws.{VisitedLaw};
 ghost use Rattle.st_bipolar.specs.Orientation.{IsOrientation, IsPlane, OrientLaw};

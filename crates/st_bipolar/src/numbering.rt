@@ -3,7 +3,8 @@ ghost use Rattle.std.specs.Prelude.{◌≡◌, ◌≢◌, ◌<◌, ◌^◌, ℕ,
 ghost use Rattle.st_map.specs.Embedded.{bare};
 ghost use Rattle.st_map.specs.Orders.{HasNoLoop};
 ghost use Rattle.st_bipolar.specs.Numbering.{AreNumbers};
-ghost use Rattle.st_bipolar.specs.Undirected.{HasAll, IsConnected, IsStNumbering};
+ghost use Rattle.st_ids.specs.Undirected.{IsConnected};
+ghost use Rattle.st_bipolar.specs.Cuts.{HasAll, IsStNumbering};
 ghost use Rattle.st_bipolar.specs.Visits.{HasNoJointBy, IsVisitBy, first_pole, second_pole};
 
 use crate::ordering::rank;

@@ -4,7 +4,8 @@ ghost use Rattle.st_map.specs.Embedded.{Touches, bare, darts, edges, faces};
 ghost use Rattle.st_map.specs.Orders.{HasNoLoop};
 ghost use Rattle.st_test.specs.Planar.{IsPlanarSt, outer_of};
 ghost use Rattle.st_bipolar.specs.Orientation.{IsOrientation, IsPlane, turned_end};
-ghost use Rattle.st_bipolar.specs.Undirected.{IsConnected, IsStNumbering};
+ghost use Rattle.st_ids.specs.Undirected.{IsConnected};
+ghost use Rattle.st_bipolar.specs.Cuts.{IsStNumbering};
 ghost use Rattle.st_bipolar.specs.OrientFault.{IsOrientFault};
 ghost use Rattle.st_bipolar.specs.Turning.{is_turned};
 

@@ -6,7 +6,7 @@
 ghost use Rattle.std.specs.Prelude.{◌≡◌, ◌≢◌, ◌⊎◌, ◌+◌, ◌-◌, ◌<◌, ◌≤◌, ◌^◌, length, min, slice_index, slice_set, IfOk, OnOk, MatchBool, [], ◌∷◌, ◌++◌};
 ghost use Rattle.st_map.specs.Embedded.{IsRotation, bare};
 ghost use Rattle.st_bipolar.specs.SearchTables.{AreCursors, AreDegrees, AreFirsts, IsGoingBy, SamePoles, deg_of, nbr_of, unvisited, work};
-ghost use Rattle.st_bipolar.specs.Undirected.{IsVisited};
+ghost use Rattle.st_bipolar.specs.Cuts.{IsVisited};
 
 use st_ids::{Dart, NoMemory, VertexId};
 use st_map::Map;

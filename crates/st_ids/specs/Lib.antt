@@ -5,3 +5,4 @@ pub mod Lists
 pub mod Pieces
 pub mod Walks
 pub mod Graph
+pub mod Undirected

@@ -12,7 +12,7 @@ use Rattle.st_input.specs.declared.fault.ShapeFault.{ShapeFault}
 use Rattle.st_input.specs.declared.fault.ShapeFault.TheVariants as shape
 use Rattle.st_shape.specs.declared.picture.Fault.{Fault}
 use Rattle.st_shape.specs.declared.picture.Fault.TheVariants as fault
-use Rattle.st_report.specs.declared.stop.TheConstants.{MOST_DRAWING_BYTES}
+use Rattle.st_ids.specs.declared.limits.TheConstants.{MOST_DRAWING_BYTES}
 use Rattle.st_report.specs.declared.stop.Status.{Status}
 use Rattle.st_report.specs.declared.stop.Status.TheVariants as status
 use Rattle.st_report.specs.declared.stop.NotSt.TheVariants as not_st

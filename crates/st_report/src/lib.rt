@@ -8,6 +8,6 @@ mod stop;
 mod telling;
 
 pub use stop::{
-    BadPath, MOST_DRAWING_BYTES, NameList, NoOrientation, NotSt, Refusal, Status, Stop,
+    BadPath, NameList, NoOrientation, NotSt, Refusal, Status, Stop,
 };
 pub use telling::report;

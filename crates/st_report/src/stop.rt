@@ -9,9 +9,6 @@ use st_shape::Fault;
 use std::alloc::Global;
 use std::marker::Model;
 
-/// The greatest number of bytes of a drawing that is read. It holds every text that `draw` can write.
-pub const MOST_DRAWING_BYTES: usize = 268_435_456;
-
 /// How a run ended. Each status has a number, which the program ends with.
 #[derive(Clone, Copy, Debug, PartialEq, Eq)]
 pub enum Status {

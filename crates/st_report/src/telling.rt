@@ -8,10 +8,10 @@ ghost use Rattle.st_port.specs.Writes.{Writes};
 ghost use Rattle.st_report.specs.Lines.{gml_line, shape_line, names_line, several_line, limit_line, faces_line, cycle_line, not_st_line, path_line, fault_line, orientation_line, too_long_line, line_of, stop_line, stop_status};
 ghost use Rattle.st_report.specs.Telling.{Tells};
 
-use crate::stop::{BadPath, MOST_DRAWING_BYTES, NoOrientation, NotSt, Refusal, Status, Stop};
+use crate::stop::{BadPath, NoOrientation, NotSt, Refusal, Status, Stop};
 use gml_core::GmlFault;
 use itoa::{Buffer, Integer};
-use st_ids::limits::{MOST_BYTES, MOST_EDGES, MOST_VERTICES};
+use st_ids::limits::{MOST_BYTES, MOST_DRAWING_BYTES, MOST_EDGES, MOST_VERTICES};
 use st_input::ShapeFault;
 use st_port::{Failed, Sink, write_all};
 use st_shape::Fault;

@@ -9,7 +9,7 @@ use Rattle.eps_core.proofs.FirstBad.{one_bad_line}
 use Rattle.st_port.specs.Reading.{Reads}
 use Rattle.st_port.specs.Streams.{SourceState}
 use Rattle.st_port.specs.declared.port.ReadEnd.TheVariants as read
-use Rattle.st_report.specs.declared.stop.TheConstants.{MOST_DRAWING_BYTES}
+use Rattle.st_ids.specs.declared.limits.TheConstants.{MOST_DRAWING_BYTES}
 use Rattle.st_report.specs.declared.stop.Refusal.{Refusal}
 use Rattle.st_report.specs.declared.stop.Refusal.TheVariants.{Words, TooManyBytes, TooLongDrawing, Eps, NotClean}
 use Rattle.st_report.specs.declared.stop.Stop.{Stop}

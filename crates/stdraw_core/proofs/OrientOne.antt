@@ -6,7 +6,8 @@ use Rattle.st_ids.specs.Graph.{Graph}
 use Rattle.st_bipolar.specs.Faults.{IsFirstApart}
 use Rattle.st_bipolar.specs.Orientation.{IsOrientation, IsPlane}
 use Rattle.st_bipolar.specs.OrientFault.{IsOrientFault}
-use Rattle.st_bipolar.specs.Undirected.{IsConnected, IsFirstCut}
+use Rattle.st_ids.specs.Undirected.{IsConnected}
+use Rattle.st_bipolar.specs.Cuts.{IsFirstCut}
 use Rattle.st_bipolar.specs.declared.orienting.OrientFault.{OrientFault}
 use Rattle.st_bipolar.specs.declared.orienting.OrientFault.TheVariants as orient_fault
 use Rattle.st_input.specs.InputGraph.{InputGraph, IsConsistent}

@@ -9,7 +9,7 @@ use Rattle.std.specs.Prelude.{◌≡◌, ℕ, ◌<◌, ◌≤◌, pos, List, len
 use Rattle.eps_core.specs.Meaning.{IsFirstBad}
 use Rattle.eps_core.specs.Text.{text}
 use Rattle.st_report.specs.Lines.{numbered}
-use Rattle.st_report.specs.declared.stop.TheConstants.{MOST_DRAWING_BYTES}
+use Rattle.st_ids.specs.declared.limits.TheConstants.{MOST_DRAWING_BYTES}
 use Rattle.st_report.specs.declared.stop.Refusal.{Refusal}
 use Rattle.st_report.specs.declared.stop.Refusal.TheVariants.{TooLongDrawing, Eps, NotClean}
 use Rattle.st_shape.specs.Rules.{Drawing, IsPicture}

@@ -28,7 +28,7 @@ use Rattle.gml_core.specs.Reading.{IsText}
 use Rattle.st_input.specs.InputGraph.{InputGraph}
 use Rattle.st_port.specs.Faults.{Rose}
 use Rattle.st_port.specs.Streams.{SourceState, SinkState, Gains}
-use Rattle.st_report.specs.declared.stop.TheConstants.{MOST_DRAWING_BYTES}
+use Rattle.st_ids.specs.declared.limits.TheConstants.{MOST_DRAWING_BYTES}
 use Rattle.st_shape.specs.Rules.{Drawing, IsPicture}
 use Rattle.st_shape.specs.Verdict.{IsRight}
 use Rattle.st_test.specs.Planar.{StValue}

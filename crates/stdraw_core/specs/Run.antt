@@ -13,7 +13,7 @@ use Rattle.std.specs.Prelude.{◌≡◌, ℕ, ◌+◌, ◌<◌, ◌≤◌, List,
 use Rattle.std.specs.declared.option.Option.{Option}
 use Rattle.std.specs.Io.KnownBytes.{Consumes, IsAtEnd}
 use Rattle.st_ids.specs.declared.limits.TheConstants.{MOST_BYTES}
-use Rattle.st_report.specs.declared.stop.TheConstants.{MOST_DRAWING_BYTES}
+use Rattle.st_ids.specs.declared.limits.TheConstants.{MOST_DRAWING_BYTES}
 use Rattle.st_input.specs.InputGraph.{InputGraph}
 use Rattle.st_port.specs.Faults.{Rose}
 use Rattle.st_port.specs.Reading.{Reads}

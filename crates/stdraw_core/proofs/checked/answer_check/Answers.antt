@@ -1,5 +1,5 @@
 use Rattle.std.proofs.Common.{◌≡◌, ◌≤◌, ap, arith, length}
-use Rattle.st_report.specs.declared.stop.TheConstants.{MOST_DRAWING_BYTES}
+use Rattle.st_ids.specs.declared.limits.TheConstants.{MOST_DRAWING_BYTES}
 use Rattle.stdraw_core.proofs.CheckLemmas.{check_decided, check_failed, check_too_long, checked_for_words}
 use Rattle.stdraw_core.proofs.RunLemmas.{takes_at_most}
 use Rattle.stdraw_core.proofs.checked.answer_check.Goals as goal

@@ -1,4 +1,5 @@
 use Rattle.std.proofs.Common.{sym, subst}
+use Rattle.st_ids.specs.declared.limits.TheConstants.{MOST_EDGES}
 use Rattle.st_picture.specs.Naming.{AreNames}
 use Rattle.stdraw_core.proofs.DrawingLemmas.{names_meet, edges_within, names_are}
 use Rattle.stdraw_core.specs.Drawing.{IsPictureOf}
@@ -13,7 +14,7 @@ picture_of-requires-clause-names c =
     (names_meet c.args.spec.now c.args.graph c.in-Ok.sides c.requires.tables c.requires.found c.in-Ok.ensures)
 
 pub picture_of-requires-clause-wide : goal.picture_of-requires-clause-wide
-picture_of-requires-clause-wide c = edges_within c.args.spec.now c.args.graph c.in-Ok.sides c.requires.found c.in-Ok.ensures 60000 c.requires.wide
+picture_of-requires-clause-wide c = edges_within c.args.spec.now c.args.graph c.in-Ok.sides c.requires.found c.in-Ok.ensures MOST_EDGES c.requires.wide
 
 pub returns-in-Ok-picture_of-clause-ok : goal.returns-in-Ok-picture_of-clause-ok
 returns-in-Ok-picture_of-clause-ok c = record {

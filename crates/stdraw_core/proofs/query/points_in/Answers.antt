@@ -1,4 +1,5 @@
 use Rattle.std.proofs.Common.{◌≡◌, ◌≤◌, ◌∙◌, ℕ, List, subst, arith}
+use Rattle.st_ids.specs.declared.limits.TheConstants.{MOST_EDGES}
 use Rattle.st_sides.specs.Sides.{edge_count}
 use Rattle.stdraw_core.specs.Drawing.{file_names}
 use Rattle.stdraw_core.specs.Query.{DecideReaching}
@@ -7,7 +8,7 @@ use Rattle.stdraw_core.proofs.query.points_in.Goals as goal
 
 pub dominance_points-requires-clause-few : goal.dominance_points-requires-clause-few
 dominance_points-requires-clause-few c =
-    let wide : edge_count c.in_ok-sides.sides ≤ 60000 = edges_within c.args.spec.now c.args.graph c.in_ok-sides.sides c.requires.found c.in_ok-sides.ensures 60000 c.requires.wide in
+    let wide : edge_count c.in_ok-sides.sides ≤ MOST_EDGES = edges_within c.args.spec.now c.args.graph c.in_ok-sides.sides c.requires.found c.in_ok-sides.ensures MOST_EDGES c.requires.wide in
     let high : c.in_ok-sides.sides.vertices ≡ c.args.spec.now.graph.vertices = c.in_ok-sides.ensures.vertices ∙ c.requires.found.vertices in
     omega (arith, wide, high, c.requires.high)
 

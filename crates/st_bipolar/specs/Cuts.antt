@@ -1,34 +1,13 @@
--- Undirected walks, vertices that cut off others, and orders between two poles.
+-- Vertices that cut off others, and orders between two poles.
 -- Letters: g graph, e edge, u v w c vertices, all by number; s and t the poles; vs the visited vertices in their order.
---   Joins g e u w      e leads from u to w in one of its two directions
---   Trail g Ok u es v  an undirected walk, all of whose vertices have the property
---   Joined g Ok u v    there is one
---   IsConnected g s    an undirected walk joins each vertex to s
 --   CutsOff g s t c v  no undirected walk that avoids c leads from v to s or to t
 --   IsFirstCut         the first such c, and for it the first such v
 --   IsStNumbering         numbers of the vertices by which the edges can be turned
 --   IsVisited          what a depth-first search delivers
-use Rattle.std.specs.Prelude.{ℕ, ◌≡◌, ◌≢◌, ◌⊎◌, ◌<◌, List, [], ◌∷◌, length, slice_index}
+use Rattle.std.specs.Prelude.{ℕ, ◌≡◌, ◌≢◌, ◌<◌, List, length, slice_index}
 use Rattle.st_ids.specs.Graph.{Graph, tail_of, head_of}
+use Rattle.st_ids.specs.Undirected.{Joins, IsJoined}
 use Rattle.st_bipolar.specs.Search.{IsSearch, IsLow}
-
--- e leads from u to w in one of its two directions
-pub record Joins (g : Graph) (e u w : ℕ) : Type 0 where
-  pub arc : e < length g.ends
-  pub ends : ((tail_of g.ends e ≡ u) × (head_of g.ends e ≡ w)) ⊎ ((head_of g.ends e ≡ u) × (tail_of g.ends e ≡ w))
-
--- an undirected walk, all of whose vertices have the property
-pub data Trail (g : Graph) (Ok : ℕ → Type 0) : ℕ → List ℕ → ℕ → Type 0 where
-  rest : {u v : ℕ} → Ok u → u ≡ v → Trail g Ok u [] v
-  pass : {u w v e : ℕ} {es : List ℕ} → Ok u → Joins g e u w → Trail g Ok w es v → Trail g Ok u (e ∷ es) v
-
-pub record Joined (g : Graph) (Ok : ℕ → Type 0) (u v : ℕ) : Type 0 where
-  pub way : List ℕ
-  pub trail : Trail g Ok u way v
-
--- an undirected walk joins each vertex to s
-abbrev pub IsConnected : Graph → ℕ → Type 0
-IsConnected g s = (v : ℕ) → v < g.vertices → Joined g (λ _. Unit {0}) v s
 
 -- v is none of c, s and t, and each undirected walk from v to s or t goes through c
 pub record CutsOff (g : Graph) (s t c v : ℕ) : Type 0 where
@@ -37,8 +16,8 @@ pub record CutsOff (g : Graph) (s t c v : ℕ) : Type 0 where
   pub not_cut : v ≢ c
   pub not_s : v ≢ s
   pub not_t : v ≢ t
-  pub no_s : Joined g (λ x. x ≢ c) v s → ⊥
-  pub no_t : Joined g (λ x. x ≢ c) v t → ⊥
+  pub no_s : IsJoined g (λ x. x ≢ c) v s → ⊥
+  pub no_t : IsJoined g (λ x. x ≢ c) v t → ⊥
 
 -- the first vertex that cuts off another one, and the first that it cuts off
 pub record IsFirstCut (g : Graph) (s t c v : ℕ) : Type 0 where
