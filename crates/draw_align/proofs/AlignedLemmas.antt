@@ -7,15 +7,9 @@ use Rattle.st_sides.specs.Sides.{SidesValue, edge_count, edge_tail, edge_head, f
 use Rattle.st_sides.specs.Sweep.{OnBoundary}
 use Rattle.draw_align.specs.Alignment.{Paths, path_count, path_of, AreValid}
 use Rattle.draw_align.specs.Listed.{path_at, IsPath}
-use Rattle.st_ids.proofs.ListLemmas.{not_in_nil, In-cases, in_subst, in_dec, in_right, in_append}
-use Rattle.st_ids.proofs.WalkLemmas.{walk_from, walk_to, walk_append, halves, on_walk, no_loop, unique_tail, arrives, departs, reach_refl, reach_trans, reach_arc}
-use Rattle.st_ids.proofs.FiniteLemmas.{down}
-use Rattle.st_sides.proofs.FanLemmas.{beside_out, beside_in, order_out, order_in, order_out_beside, order_in_beside}
+use Rattle.st_ids.proofs.Public.{not_in_nil, In-cases, in_subst, in_dec, in_right, in_append, walk_from, walk_to, walk_append, halves, on_walk, no_loop, unique_tail, arrives, departs, reach_refl, reach_trans, reach_arc, down}
+use Rattle.st_sides.proofs.Public.{beside_out, beside_in, order_out, order_in, order_out_beside, order_in_beside, IsNext, Swept, closed_reach, swept_below, search, within, next_face, across_out}
 use Rattle.draw_align.proofs.ChoiceLemmas.{Decided, any_below, last_with, first_with}
-use Rattle.st_sides.proofs.BoundaryLemmas.{IsNext, Swept, closed_reach, swept_below}
-use Rattle.st_sides.proofs.SearchLemmas.{search}
-use Rattle.st_sides.proofs.SweepLemmas.{within, next_face}
-use Rattle.st_sides.proofs.ExclusiveLemmas.{across_out}
 
 -- a face that may come next, with done paths alone on its left path
 pub record FreeFace (g : SidesValue) (P : Paths) (L Q : List ℕ) : Type 0 where

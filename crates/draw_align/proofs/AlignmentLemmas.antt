@@ -5,14 +5,12 @@ use Rattle.st_ids.specs.Lists.{In, here, there, NoRepeat, Precedes}
 use Rattle.st_ids.specs.Walks.{Arcs, Walk, stay, step, IsAcyclic}
 use Rattle.st_sides.specs.Sides.{SidesValue, edge_count, face_left, face_right, IsInner, IsSides}
 use Rattle.draw_align.specs.Listed.{path_at}
-use Rattle.draw_align.specs.Alignment.{Paths, path_count, path_of, AreValid, node, alignment, alignment_weight, AlignmentLaw}
-use Rattle.st_ids.proofs.ListLemmas.{not_in_nil, In-cases, in_subst, in_dec, turn, turn_once, turn_before, Precedes_trans, Precedes_irrefl}
-use Rattle.st_ids.proofs.WalkLemmas.{on_walk}
-use Rattle.st_ids.proofs.FiniteLemmas.{IsWithin, length-le_from_below}
+use Rattle.draw_align.specs.Alignment.{Paths, path_count, path_of, AreValid, node_of_path, alignment, alignment_weight, AlignmentLaw}
+use Rattle.st_ids.proofs.Public.{not_in_nil, In-cases, in_subst, in_dec, turn, turn_once, turn_before, Precedes_trans, Precedes_irrefl, on_walk, IsWithin, length-le_from_below}
 use Rattle.draw_align.proofs.ChoiceLemmas.{Decided, any_below, all_in}
-use Rattle.st_sides.proofs.BoundaryLemmas.{IsNext, Swept, start, grow, swept_below, swept_zero, swept_once, boundary}
+use Rattle.st_sides.proofs.Public.{IsNext, Swept, start, grow, swept_below, swept_zero, swept_once, boundary}
 use Rattle.draw_align.proofs.AlignedLemmas.{free_face}
-use Rattle.st_number.proofs.GreatestLemmas.{greatest_law, dual_has_in}
+use Rattle.st_number.proofs.Public.{greatest_law, dual_has_in}
 
 -- a path may be added where its edges all have their left in the list
 pub record IsFree (g : SidesValue) (P : Paths) (L Q : List ℕ) (p : ℕ) : Type 0 where
@@ -24,7 +22,7 @@ pub record IsFree (g : SidesValue) (P : Paths) (L Q : List ℕ) (p : ℕ) : Type
 pub data Grown (g : SidesValue) (P : Paths) : List ℕ → List ℕ → List ℕ → Type 0 where
   begin : Grown g P (0 ∷ []) [] (0 ∷ [])
   add_face : {L Q N : List ℕ} {f : ℕ} → Grown g P L Q N → IsNext g L f → ((e : ℕ) → e < edge_count g → face_right g e ≡ f → In (path_of P e) Q) → Grown g P (f ∷ L) Q (f ∷ N)
-  add_path : {L Q N : List ℕ} {p : ℕ} → Grown g P L Q N → IsFree g P L Q p → Grown g P L (p ∷ Q) (node g p ∷ N)
+  add_path : {L Q N : List ℕ} {p : ℕ} → Grown g P L Q N → IsFree g P L Q p → Grown g P L (p ∷ Q) (node_of_path g p ∷ N)
 
 -- an order of the nodes shows that there is no cycle
 order_walk : (D : Arcs) (xs : List ℕ) → NoRepeat xs → ((a : ℕ) → a < D.count → Precedes (D.from a) (D.to a) xs) → (u e v : ℕ) (es : List ℕ) → Walk D u (e ∷ es) v → Precedes u v xs
@@ -65,10 +63,10 @@ module _ (g : SidesValue) (S : IsSides g) (P : Paths) (V : AreValid g P) where
   face_node (add_face G m d) f (there j) = there (face_node G f j)
   face_node (add_path G k) f i = there (face_node G f i)
 
-  path_node : {L Q N : List ℕ} → Grown g P L Q N → (p : ℕ) → In p Q → In (node g p) N
+  path_node : {L Q N : List ℕ} → Grown g P L Q N → (p : ℕ) → In p Q → In (node_of_path g p) N
   path_node begin p i = absurd (not_in_nil i)
   path_node (add_face G m d) p i = there (path_node G p i)
-  path_node (add_path G f) p (here q) = here (ap (node g) q)
+  path_node (add_path G f) p (here q) = here (ap (node_of_path g) q)
   path_node (add_path G f) p (there j) = there (path_node G p j)
 
   node_face : {L Q N : List ℕ} → Grown g P L Q N → (f : ℕ) → f < g.t_star → In f N → In f L
@@ -78,7 +76,7 @@ module _ (g : SidesValue) (S : IsSides g) (P : Paths) (V : AreValid g P) where
   node_face (add_path G k) f l (here q) = absurd (omega arith)
   node_face (add_path G k) f l (there j) = node_face G f l j
 
-  node_path : {L Q N : List ℕ} → Grown g P L Q N → (p : ℕ) → In (node g p) N → In p Q
+  node_path : {L Q N : List ℕ} → Grown g P L Q N → (p : ℕ) → In (node_of_path g p) N → In p Q
   node_path begin p (here q) = absurd (omega arith)
   node_path begin p (there j) = absurd (not_in_nil j)
   node_path (add_face G m d) p (here q) = let h = m.inner.not_t in absurd (omega arith)
@@ -100,18 +98,18 @@ module _ (g : SidesValue) (S : IsSides g) (P : Paths) (V : AreValid g P) where
   no_t (add_path G k) (there j) = no_t G j
 
   -- the order from left to right
-  before_path : {L Q N : List ℕ} → Grown g P L Q N → (ys : List ℕ) (e : ℕ) → e < edge_count g → In (path_of P e) Q → Precedes (face_left g e) (node g (path_of P e)) (turn N ys)
+  before_path : {L Q N : List ℕ} → Grown g P L Q N → (ys : List ℕ) (e : ℕ) → e < edge_count g → In (path_of P e) Q → Precedes (face_left g e) (node_of_path g (path_of P e)) (turn N ys)
   before_path begin ys e a i = absurd (not_in_nil i)
   before_path (add_face {f = f} G m d) ys e a i = before_path G (f ∷ ys) e a i
-  before_path (add_path {N = N} {p = p} G k) ys e a (here q) = turn_before N (node g p ∷ ys) (face_left g e) (node g (path_of P e)) (face_node G (face_left g e) (k.ready e (subst (λ z. In e (path_at P.lists z)) q (V.home e a)))) (here (ap (node g) q))
-  before_path (add_path {p = p} G k) ys e a (there j) = before_path G (node g p ∷ ys) e a j
+  before_path (add_path {N = N} {p = p} G k) ys e a (here q) = turn_before N (node_of_path g p ∷ ys) (face_left g e) (node_of_path g (path_of P e)) (face_node G (face_left g e) (k.ready e (subst (λ z. In e (path_at P.lists z)) q (V.home e a)))) (here (ap (node_of_path g) q))
+  before_path (add_path {p = p} G k) ys e a (there j) = before_path G (node_of_path g p ∷ ys) e a j
 
-  before_face : {L Q N : List ℕ} → Grown g P L Q N → (ys : List ℕ) (e : ℕ) → e < edge_count g → In (face_right g e) L → Precedes (node g (path_of P e)) (face_right g e) (turn N ys)
+  before_face : {L Q N : List ℕ} → Grown g P L Q N → (ys : List ℕ) (e : ℕ) → e < edge_count g → In (face_right g e) L → Precedes (node_of_path g (path_of P e)) (face_right g e) (turn N ys)
   before_face begin ys e a (here q) = let h : 0 < face_right g e = S.right_after e a in absurd (omega arith)
   before_face begin ys e a (there j) = absurd (not_in_nil j)
-  before_face (add_face {N = N} {f = f} G m d) ys e a (here q) = turn_before N (f ∷ ys) (node g (path_of P e)) (face_right g e) (path_node G (path_of P e) (d e a q)) (here q)
+  before_face (add_face {N = N} {f = f} G m d) ys e a (here q) = turn_before N (f ∷ ys) (node_of_path g (path_of P e)) (face_right g e) (path_node G (path_of P e) (d e a q)) (here q)
   before_face (add_face {f = f} G m d) ys e a (there j) = before_face G (f ∷ ys) e a j
-  before_face (add_path {p = p} G k) ys e a i = before_face G (node g p ∷ ys) e a i
+  before_face (add_path {p = p} G k) ys e a i = before_face G (node_of_path g p ∷ ys) e a i
 
   -- ---- all of it
   pub record Complete : Type 0 where
@@ -131,7 +129,7 @@ module _ (g : SidesValue) (S : IsSides g) (P : Paths) (V : AreValid g P) where
 
   more : {L Q N : List ℕ} → Grown g P L Q N → Complete ⊎ More L Q
   more {L} {Q} {N} G = elim (any_below (λ p. (In p Q → ⊥) × ((e : ℕ) → In e (path_at P.lists p) → In (face_left g e) L)) free_dec (path_count P)) [
-    | inl h ↦ inr (record { faces = L; paths = h.0 ∷ Q; nodes = node g h.0 ∷ N; grown = add_path G (record { is_path = h.1; new = h.2.0; ready = h.2.1 }); larger = omega arith })
+    | inl h ↦ inr (record { faces = L; paths = h.0 ∷ Q; nodes = node_of_path g h.0 ∷ N; grown = add_path G (record { is_path = h.1; new = h.2.0; ready = h.2.1 }); larger = omega arith })
     | inr none ↦ elim (any_below (λ f. In f L → ⊥) face_dec g.t_star) [
       | inl m ↦
           let B = boundary g S (swept_of G) in
@@ -205,24 +203,24 @@ module _ (g : SidesValue) (S : IsSides g) (P : Paths) (V : AreValid g P) where
   unfolding all_nodes
   nodes_distinct = turn_once complete.nodes (g.t_star ∷ []) (nodes_once complete.grown) (not_in_nil, tt) (λ x i j. elim (In-cases j) [ inl q ↦ no_t complete.grown (in_subst q i) | inr k ↦ not_in_nil k ])
 
-  left_first : (e : ℕ) → e < edge_count g → Precedes (face_left g e) (node g (path_of P e)) all_nodes
+  left_first : (e : ℕ) → e < edge_count g → Precedes (face_left g e) (node_of_path g (path_of P e)) all_nodes
   unfolding all_nodes
   left_first e a = before_path complete.grown (g.t_star ∷ []) e a (complete.has_path (path_of P e) (V.home_in e a))
 
-  right_last : (e : ℕ) → e < edge_count g → Precedes (node g (path_of P e)) (face_right g e) all_nodes
+  right_last : (e : ℕ) → e < edge_count g → Precedes (node_of_path g (path_of P e)) (face_right g e) all_nodes
   unfolding all_nodes
   right_last e a = elim (cases_lt (face_right g e) g.t_star) [
     | inl l ↦ before_face complete.grown (g.t_star ∷ []) e a (complete.has_face (face_right g e) l)
     | inr l ↦
         let w : face_right g e ≤ g.t_star = S.right_within e a in
-        turn_before complete.nodes (g.t_star ∷ []) (node g (path_of P e)) (face_right g e) (path_node complete.grown (path_of P e) (complete.has_path (path_of P e) (V.home_in e a))) (here (omega arith))
+        turn_before complete.nodes (g.t_star ∷ []) (node_of_path g (path_of P e)) (face_right g e) (path_node complete.grown (path_of P e) (complete.has_path (path_of P e) (V.home_in e a))) (here (omega arith))
   ]
 
   -- ---- the alignment graph
   ordered : (a : ℕ) → a < edge_count g + edge_count g → Precedes ((alignment g P).from a) ((alignment g P).to a) all_nodes
   ordered a l = elim (cases_lt a (edge_count g)) [
-    | inl m ↦ subst (λ c. Precedes (cond c (face_left g a) (node g (path_of P (a - edge_count g)))) (cond c (node g (path_of P a)) (face_right g (a - edge_count g))) all_nodes) (sym (lt-ltb a (edge_count g) m)) (left_first a m)
-    | inr m ↦ subst (λ c. Precedes (cond c (face_left g a) (node g (path_of P (a - edge_count g)))) (cond c (node g (path_of P a)) (face_right g (a - edge_count g))) all_nodes) (sym (le-ltb a (edge_count g) m)) (right_last (a - edge_count g) (omega arith))
+    | inl m ↦ subst (λ c. Precedes (cond c (face_left g a) (node_of_path g (path_of P (a - edge_count g)))) (cond c (node_of_path g (path_of P a)) (face_right g (a - edge_count g))) all_nodes) (sym (lt-ltb a (edge_count g) m)) (left_first a m)
+    | inr m ↦ subst (λ c. Precedes (cond c (face_left g a) (node_of_path g (path_of P (a - edge_count g)))) (cond c (node_of_path g (path_of P a)) (face_right g (a - edge_count g))) all_nodes) (sym (le-ltb a (edge_count g) m)) (right_last (a - edge_count g) (omega arith))
   ]
 
   pub alignment_acyclic : IsAcyclic (alignment g P)
@@ -231,12 +229,12 @@ module _ (g : SidesValue) (S : IsSides g) (P : Paths) (V : AreValid g P) where
   alignment_within : IsWithin (alignment g P) (g.t_star + 1 + path_count P)
   alignment_within = record {
     from_in = λ a l. elim (cases_lt a (edge_count g)) [
-      | inl m ↦ subst (λ c. cond c (face_left g a) (node g (path_of P (a - edge_count g))) < g.t_star + 1 + path_count P) (sym (lt-ltb a (edge_count g) m)) (let h : face_left g a < g.t_star = S.left_before a m in omega arith)
-      | inr m ↦ subst (λ c. cond c (face_left g a) (node g (path_of P (a - edge_count g))) < g.t_star + 1 + path_count P) (sym (le-ltb a (edge_count g) m)) (let h : path_of P (a - edge_count g) < path_count P = V.home_in (a - edge_count g) (omega arith) in omega arith)
+      | inl m ↦ subst (λ c. cond c (face_left g a) (node_of_path g (path_of P (a - edge_count g))) < g.t_star + 1 + path_count P) (sym (lt-ltb a (edge_count g) m)) (let h : face_left g a < g.t_star = S.left_before a m in omega arith)
+      | inr m ↦ subst (λ c. cond c (face_left g a) (node_of_path g (path_of P (a - edge_count g))) < g.t_star + 1 + path_count P) (sym (le-ltb a (edge_count g) m)) (let h : path_of P (a - edge_count g) < path_count P = V.home_in (a - edge_count g) (omega arith) in omega arith)
     ];
     to_in = λ a l. elim (cases_lt a (edge_count g)) [
-      | inl m ↦ subst (λ c. cond c (node g (path_of P a)) (face_right g (a - edge_count g)) < g.t_star + 1 + path_count P) (sym (lt-ltb a (edge_count g) m)) (let h : path_of P a < path_count P = V.home_in a m in omega arith)
-      | inr m ↦ subst (λ c. cond c (node g (path_of P a)) (face_right g (a - edge_count g)) < g.t_star + 1 + path_count P) (sym (le-ltb a (edge_count g) m)) (let h : face_right g (a - edge_count g) ≤ g.t_star = S.right_within (a - edge_count g) (omega arith) in omega arith)
+      | inl m ↦ subst (λ c. cond c (node_of_path g (path_of P a)) (face_right g (a - edge_count g)) < g.t_star + 1 + path_count P) (sym (lt-ltb a (edge_count g) m)) (let h : path_of P a < path_count P = V.home_in a m in omega arith)
+      | inr m ↦ subst (λ c. cond c (node_of_path g (path_of P a)) (face_right g (a - edge_count g)) < g.t_star + 1 + path_count P) (sym (le-ltb a (edge_count g) m)) (let h : face_right g (a - edge_count g) ≤ g.t_star = S.right_within (a - edge_count g) (omega arith) in omega arith)
     ];
   }
 
@@ -251,14 +249,14 @@ module _ (g : SidesValue) (S : IsSides g) (P : Paths) (V : AreValid g P) where
       second x h =
           let i : h.0 < edge_count g = h.1 in
           let e : edge_count g + h.0 - edge_count g ≡ h.0 = omega arith in
-          (edge_count g + h.0, omega arith, subst (λ c. cond c (node g (path_of P (edge_count g + h.0))) (face_right g (edge_count g + h.0 - edge_count g)) ≡ x) (sym (le-ltb (edge_count g + h.0) (edge_count g) (omega arith))) (ap (face_right g) e ∙ h.2))
+          (edge_count g + h.0, omega arith, subst (λ c. cond c (node_of_path g (path_of P (edge_count g + h.0))) (face_right g (edge_count g + h.0 - edge_count g)) ≡ x) (sym (le-ltb (edge_count g + h.0) (edge_count g) (omega arith))) (ap (face_right g) e ∙ h.2))
 
-      first : (p : ℕ) → p < path_count P → node g p ≡ x → (a : ℕ) × (a < edge_count g + edge_count g) × ((alignment g P).to a ≡ x)
+      first : (p : ℕ) → p < path_count P → node_of_path g p ≡ x → (a : ℕ) × (a < edge_count g + edge_count g) × ((alignment g P).to a ≡ x)
       first p i q =
           let K = V.walks p i in
           let a : K.some.0 < edge_count g = (on_walk K.walk K.some.1).arc in
           let e : path_of P K.some.0 ≡ p = V.only_home p K.some.0 i K.some.1 in
-          (K.some.0, omega arith, subst (λ c. cond c (node g (path_of P K.some.0)) (face_right g (K.some.0 - edge_count g)) ≡ x) (sym (lt-ltb K.some.0 (edge_count g) a)) (ap (node g) e ∙ q))
+          (K.some.0, omega arith, subst (λ c. cond c (node_of_path g (path_of P K.some.0)) (face_right g (K.some.0 - edge_count g)) ≡ x) (sym (lt-ltb K.some.0 (edge_count g) a)) (ap (node_of_path g) e ∙ q))
 
   pub alignment_law : AlignmentLaw g P
   alignment_law = record {

@@ -9,16 +9,15 @@ use Rattle.std.specs.Option.{option_or}
 use Rattle.std.specs.Prelude.{IfSome}
 use Rattle.std.proofs.lemmas.Bool.{cases_eq, cases_lt}
 use Rattle.st_ids.specs.Lists.{In, Precedes}
-use Rattle.st_ids.proofs.ListLemmas.{Precedes-left, Precedes-right}
+use Rattle.st_ids.proofs.Public.{Precedes-left, Precedes-right}
 use Rattle.st_sides.specs.Sides.{SidesValue, IsSides, edge_count, edge_head, ins, outs}
-use Rattle.st_sides.proofs.FanLemmas.{order_out}
-use Rattle.st_sides.proofs.PlaceLists.{in_at, at_in}
+use Rattle.st_sides.proofs.Public.{order_out, in_at, at_in}
 use Rattle.draw_align.specs.declared.path_fault.PathFault.{PathFault}
 use Rattle.draw_align.specs.declared.steps.Passage.{Passage}
 use Rattle.draw_align.specs.Crossing.{IsRanked, rank_of, Follows, PassesAt, IsSorted}
 use Rattle.draw_align.specs.Faults.{AreThere, AreDisjoint, AreApart, AreApartAt, IsFaultAt, IsFaultAmong, IsPathFault}
 use Rattle.draw_align.specs.Listed.{path_at, CrossRightward, Cross, AreSound}
-use Rattle.draw_align.specs.Steps.{Passes}
+use Rattle.draw_align.specs.Steps.{PassesThrough}
 use Rattle.draw_align.proofs.CrossLemmas.{rank_in, rank_out, one_pass, unique_head}
 use Rattle.draw_align.proofs.StepLemmas.{one_path, as_first_fault}
 
@@ -66,21 +65,21 @@ module _ (g : SidesValue) (S : IsSides g) (c : List ℤ) (R : IsRanked g c) (ps 
 
   module _ (k : ℕ) (last : Option Passage) (B : IsSorted g c ps n v k last) where
     -- the first k edges as before, and the next
-    nothing_more : ((q y : ℕ) → q < n → Passes g ps q (get_or (ins g v) k 0) y → ⊥) → IsSorted g c ps n v (k + 1) last
+    nothing_more : ((q y : ℕ) → q < n → PassesThrough g ps q (get_or (ins g v) k 0) y → ⊥) → IsSorted g c ps n v (k + 1) last
     nothing_more none = record {
       there = B.there;
       held = λ s q. (let P = B.held s q in record { place = P.place; there = (let l : P.place < k = P.there in omega arith); before = P.before; passes = P.passes });
       most = λ i q y l m P. elim (cases_eq i k) [
-        | inl e ↦ absurd (none q y m (subst (λ z. Passes g ps q (get_or (ins g v) z 0) y) e P))
+        | inl e ↦ absurd (none q y m (subst (λ z. PassesThrough g ps q (get_or (ins g v) z 0) y) e P))
         | inr d ↦ B.most i q y (omega arith) m P
       ];
       sorted = λ i j q r y z l m ql rl P Q. elim (cases_eq j k) [
-        | inl e ↦ absurd (none r z rl (subst (λ w. Passes g ps r (get_or (ins g v) w 0) z) e Q))
+        | inl e ↦ absurd (none r z rl (subst (λ w. PassesThrough g ps r (get_or (ins g v) w 0) z) e Q))
         | inr d ↦ B.sorted i j q r y z l (omega arith) ql rl P Q
       ];
     }
 
-    one_more : (s : Passage) → s.next.0 < edge_count g → s.path < n → Passes g ps s.path (get_or (ins g v) k 0) s.next.0 → Follows g c last (Some s) → IsSorted g c ps n v (k + 1) (Some s)
+    one_more : (s : Passage) → s.next.0 < edge_count g → s.path < n → PassesThrough g ps s.path (get_or (ins g v) k 0) s.next.0 → Follows g c last (Some s) → IsSorted g c ps n v (k + 1) (Some s)
     one_more s a l P F = record {
       there = a;
       held = λ t q. subst (PassesAt g ps n v (k + 1)) (some_is q) (record { place = k; there = omega arith; before = l; passes = P });
@@ -88,33 +87,33 @@ module _ (g : SidesValue) (S : IsSides g) (c : List ℤ) (R : IsRanked g c) (ps 
         s,
         refl,
         elim (cases_eq i k) [
-          | inl e ↦ (let r : rank_of g c y ≡ rank_of g c s.next.0 = ap (rank_of g c) (on_k q y ql (subst (λ z. Passes g ps q (get_or (ins g v) z 0) y) e Q)) in omega arith)
+          | inl e ↦ (let r : rank_of g c y ≡ rank_of g c s.next.0 = ap (rank_of g c) (on_k q y ql (subst (λ z. PassesThrough g ps q (get_or (ins g v) z 0) y) e Q)) in omega arith)
           | inr d ↦ (let r : rank_of g c y < rank_of g c s.next.0 = below i q y (omega arith) ql Q in omega arith)
         ],
       );
       sorted = λ i j q r y z il jl ql rl Q Q'. elim (cases_eq j k) [
         | inl e ↦
-            let w : rank_of g c z ≡ rank_of g c s.next.0 = ap (rank_of g c) (on_k r z rl (subst (λ u. Passes g ps r (get_or (ins g v) u 0) z) e Q')) in
+            let w : rank_of g c z ≡ rank_of g c s.next.0 = ap (rank_of g c) (on_k r z rl (subst (λ u. PassesThrough g ps r (get_or (ins g v) u 0) z) e Q')) in
             let b : rank_of g c y < rank_of g c s.next.0 = below i q y (omega arith) ql Q in
             omega arith
         | inr d ↦ B.sorted i j q r y z il (omega arith) ql rl Q Q'
       ];
     }
       where
-        on_k : (q y : ℕ) → q < n → Passes g ps q (get_or (ins g v) k 0) y → y ≡ s.next.0
+        on_k : (q y : ℕ) → q < n → PassesThrough g ps q (get_or (ins g v) k 0) y → y ≡ s.next.0
         on_k q y ql Q = (one_pass g S c R ps A n within D q s.path (get_or (ins g v) k 0) y s.next.0 ql l Q P).1
 
-        below : (i q y : ℕ) → i < k → q < n → Passes g ps q (get_or (ins g v) i 0) y → rank_of g c y < rank_of g c s.next.0
+        below : (i q y : ℕ) → i < k → q < n → PassesThrough g ps q (get_or (ins g v) i 0) y → rank_of g c y < rank_of g c s.next.0
         below i q y il ql Q =
             let M = B.most i q y il ql Q in
             let f : rank_of g c M.0.next.0 < rank_of g c s.next.0 = subst (λ z. Follows g c z (Some s)) M.1 F in
             let m : rank_of g c y ≤ rank_of g c M.0.next.0 = M.2 in
             omega arith
 
-    pub sorted_more : (x : ℕ) → get_or (ins g v) k 0 ≡ x → (found : Option Passage) → IfSome found (λ s. (s.path < n) × Passes g ps s.path x s.next.0) → IfSome found (λ s. s.next.0 < edge_count g)
-        → (found ≡ None → (q y : ℕ) → q < n → Passes g ps q x y → ⊥) → Follows g c last found → IsSorted g c ps n v (k + 1) (option_or found last)
-    sorted_more x e None some there none F = nothing_more (λ q y l P. none refl q y l (subst (λ z. Passes g ps q z y) e P))
-    sorted_more x e (Some s) some there none F = one_more s there some.0 (subst (λ z. Passes g ps s.path z s.next.0) (sym e) some.1) F
+    pub sorted_more : (x : ℕ) → get_or (ins g v) k 0 ≡ x → (found : Option Passage) → IfSome found (λ s. (s.path < n) × PassesThrough g ps s.path x s.next.0) → IfSome found (λ s. s.next.0 < edge_count g)
+        → (found ≡ None → (q y : ℕ) → q < n → PassesThrough g ps q x y → ⊥) → Follows g c last found → IsSorted g c ps n v (k + 1) (option_or found last)
+    sorted_more x e None some there none F = nothing_more (λ q y l P. none refl q y l (subst (λ z. PassesThrough g ps q z y) e P))
+    sorted_more x e (Some s) some there none F = one_more s there some.0 (subst (λ z. PassesThrough g ps s.path z s.next.0) (sym e) some.1) F
 
     pub sorted_end : v < g.vertices → length (ins g v) ≤ k → AreApartAt g ps n v
     sorted_end lv full p q l m C = elim C [
@@ -130,14 +129,14 @@ module _ (g : SidesValue) (S : IsSides g) (c : List ℤ) (R : IsRanked g c) (ps 
             let hx' = ((S.ins_are v lv).only K.x' (Precedes-right (ins g v) K.x K.x' K.in_order)).1 in
             let ty = ((S.outs_are v lv).only K.y (Precedes-right (outs g v) K.y' K.y K.out_order)).1 in
             let ty' = ((S.outs_are v lv).only K.y' (Precedes-left (outs g v) K.y' K.y K.out_order)).1 in
-            let P : Passes g ps p K.x K.y = record { x_on = K.x_on; y_on = K.y_on; joined = ty ∙ sym hx } in
-            let Q : Passes g ps q K.x' K.y' = record { x_on = K.x'_on; y_on = K.y'_on; joined = ty' ∙ sym hx' } in
-            let up : rank_of g c K.y < rank_of g c K.y' = B.sorted I.first I.second p q K.y K.y' I.in_order (omega arith) l m (subst (λ z. Passes g ps p z K.y) (sym I.first_is) P) (subst (λ z. Passes g ps q z K.y') (sym I.second_is) Q) in
+            let P : PassesThrough g ps p K.x K.y = record { x_on = K.x_on; y_on = K.y_on; joined = ty ∙ sym hx } in
+            let Q : PassesThrough g ps q K.x' K.y' = record { x_on = K.x'_on; y_on = K.y'_on; joined = ty' ∙ sym hx' } in
+            let up : rank_of g c K.y < rank_of g c K.y' = B.sorted I.first I.second p q K.y K.y' I.in_order (omega arith) l m (subst (λ z. PassesThrough g ps p z K.y) (sym I.first_is) P) (subst (λ z. PassesThrough g ps q z K.y') (sym I.second_is) Q) in
             let down : rank_of g c K.y' < rank_of g c K.y = rank_out g S c R v K.y' K.y lv K.out_order in
             omega arith
 
     -- two passings that leave in the other order cross
-    crosses : v < g.vertices → k < length (ins g v) → (a b : Passage) → last ≡ Some a → b.path < n → Passes g ps b.path (get_or (ins g v) k 0) b.next.0 → (rank_of g c a.next.0 < rank_of g c b.next.0 → ⊥) → (a.path ≢ b.path) × CrossRightward g (path_at ps a.path) (path_at ps b.path) v
+    crosses : v < g.vertices → k < length (ins g v) → (a b : Passage) → last ≡ Some a → b.path < n → PassesThrough g ps b.path (get_or (ins g v) k 0) b.next.0 → (rank_of g c a.next.0 < rank_of g c b.next.0 → ⊥) → (a.path ≢ b.path) × CrossRightward g (path_at ps a.path) (path_at ps b.path) v
     crosses lv kl a b la bn Q other = (apart, K)
       where
         H : PassesAt g ps n v k a
@@ -180,7 +179,7 @@ module _ (g : SidesValue) (S : IsSides g) (c : List ℤ) (R : IsRanked g c) (ps 
         K : CrossRightward g (path_at ps a.path) (path_at ps b.path) v
         K = record { x = x; y = a.next.0; x' = x'; y' = b.next.0; x_on = H.passes.x_on; y_on = H.passes.y_on; x'_on = Q.x_on; y'_on = Q.y_on; in_order = order; out_order = out }
 
-    cross_apart : v < g.vertices → k < length (ins g v) → (a b : Passage) → last ≡ Some a → b.path < n → Passes g ps b.path (get_or (ins g v) k 0) b.next.0 → (rank_of g c a.next.0 < rank_of g c b.next.0 → ⊥) → AreApartAt g ps n v → ⊥
+    cross_apart : v < g.vertices → k < length (ins g v) → (a b : Passage) → last ≡ Some a → b.path < n → PassesThrough g ps b.path (get_or (ins g v) k 0) b.next.0 → (rank_of g c a.next.0 < rank_of g c b.next.0 → ⊥) → AreApartAt g ps n v → ⊥
     cross_apart lv kl a b la bn Q other apart =
         let C = crosses lv kl a b la bn Q other in
         let an : a.path < n = (B.held a la).before in
@@ -190,10 +189,10 @@ module _ (g : SidesValue) (S : IsSides g) (c : List ℤ) (R : IsRanked g c) (ps 
         ]
 
   pub not_sorted : (k : ℕ) (last : Option Passage) → IsSorted g c ps n v k last → v < g.vertices → k < length (ins g v) → (x : ℕ) → get_or (ins g v) k 0 ≡ x → (found : Option Passage)
-      → IfSome found (λ s. (s.path < n) × Passes g ps s.path x s.next.0) → (Follows g c last found → ⊥) → AreApartAt g ps n v → ⊥
+      → IfSome found (λ s. (s.path < n) × PassesThrough g ps s.path x s.next.0) → (Follows g c last found → ⊥) → AreApartAt g ps n v → ⊥
   not_sorted k None B lv kl x e found some other apart = other tt
   not_sorted k (Some a) B lv kl x e None some other apart = other tt
-  not_sorted k (Some a) B lv kl x e (Some b) some other apart = cross_apart k (Some a) B lv kl a b refl some.0 (subst (λ z. Passes g ps b.path z b.next.0) (sym e) some.1) other apart
+  not_sorted k (Some a) B lv kl x e (Some b) some other apart = cross_apart k (Some a) B lv kl a b refl some.0 (subst (λ z. PassesThrough g ps b.path z b.next.0) (sym e) some.1) other apart
 
 -- ---- how many paths are apart
 module _ (g : SidesValue) (ps : List (List ℕ)) where

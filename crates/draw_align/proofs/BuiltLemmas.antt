@@ -9,14 +9,12 @@ use Rattle.st_ids.specs.declared.limits.TheConstants.{MOST_COORDINATE}
 use Rattle.st_ids.specs.Graph.{Graph, tail_of, head_of, arcs_of}
 use Rattle.st_ids.specs.Lists.{In, NoRepeat, here, there}
 use Rattle.st_ids.specs.Walks.{Walk, stay, step, IsAcyclic}
-use Rattle.st_ids.proofs.ListLemmas.{not_in_nil, In-cases}
-use Rattle.st_ids.proofs.FiniteLemmas.{length-le_from_below}
-use Rattle.st_ids.proofs.WalkLemmas.{walk_from, walk_once, on_walk}
+use Rattle.st_ids.proofs.Public.{not_in_nil, In-cases, length-le_from_below, walk_from, walk_once, on_walk}
 use Rattle.st_sides.specs.Held.{IsHeld}
 use Rattle.st_sides.specs.Sides.{SidesValue, IsSides, edge_count, face_right}
 use Rattle.st_number.specs.Greatest.{weigh, IsGreatest, IsPass}
 use Rattle.st_number.specs.Passing.{IsPassTable}
-use Rattle.draw_align.specs.Alignment.{Paths, path_count, path_of, AreValid, node, alignment, alignment_weight}
+use Rattle.draw_align.specs.Alignment.{Paths, path_count, path_of, AreValid, node_of_path, alignment, alignment_weight}
 use Rattle.draw_align.specs.Built.{arc_from, arc_to, HasHomes, IsBuilt, AreArcWeights, AreNodeColumns}
 use Rattle.draw_align.specs.Homes.{HasPaths}
 use Rattle.draw_align.specs.Listed.{AreSound}
@@ -122,9 +120,9 @@ module _ (g : SidesValue) (P : Paths) (n : ℕ) (D : Graph) (B : IsBuilt g P.hom
 
     none_to_first : (a : ℕ) → a < edge_count g + edge_count g → (alignment g P).to a ≡ 0 → ⊥
     none_to_first a l r = elim (cases_lt a (edge_count g)) [
-      | inl m ↦ (let k : node g (path_of P a) ≡ 0 = subst (λ c. cond c (node g (path_of P a)) (face_right g (a - edge_count g)) ≡ 0) (lt-ltb a (edge_count g) m) r in omega arith)
+      | inl m ↦ (let k : node_of_path g (path_of P a) ≡ 0 = subst (λ c. cond c (node_of_path g (path_of P a)) (face_right g (a - edge_count g)) ≡ 0) (lt-ltb a (edge_count g) m) r in omega arith)
       | inr m ↦
-          let k : face_right g (a - edge_count g) ≡ 0 = subst (λ c. cond c (node g (path_of P a)) (face_right g (a - edge_count g)) ≡ 0) (le-ltb a (edge_count g) m) r in
+          let k : face_right g (a - edge_count g) ≡ 0 = subst (λ c. cond c (node_of_path g (path_of P a)) (face_right g (a - edge_count g)) ≡ 0) (le-ltb a (edge_count g) m) r in
           let j : 0 < face_right g (a - edge_count g) = S.right_after (a - edge_count g) (omega arith) in
           omega arith
     ]

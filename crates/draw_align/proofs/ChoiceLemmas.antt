@@ -2,7 +2,7 @@
 use Rattle.std.proofs.Common.{ℕ, zero, suc, List, [], ◌∷◌, ◌++◌, ◌≡◌, ◌<◌, ◌⊎◌, inl, inr, refl, sym, ap, subst, arith}
 use Rattle.std.proofs.lemmas.Bool.{cases_eq}
 use Rattle.st_ids.specs.Lists.{In, here, there}
-use Rattle.st_ids.proofs.ListLemmas.{not_in_nil, In-cases}
+use Rattle.st_ids.proofs.Public.{not_in_nil, In-cases}
 
 abbrev pub Decided : (ℕ → Type 0) → Type 0
 Decided D = (x : ℕ) → D x ⊎ (D x → ⊥)

@@ -9,18 +9,16 @@ use Rattle.std.proofs.Common.{ℕ, ℤ, suc, List, Option, Some, None, cond, nat
 use Rattle.std.proofs.lemmas.Bool.{cases_eq, cases_lt, lt-ltb, le-ltb}
 use Rattle.st_ids.specs.Lists.{In, Precedes}
 use Rattle.st_ids.specs.Walks.{Arcs, Walk, IsAcyclic}
-use Rattle.st_ids.proofs.ListLemmas.{Precedes-left, Precedes-right}
-use Rattle.st_ids.proofs.WalkLemmas.{no_loop, unique_tail, in_order, reach_refl, reach_trans}
+use Rattle.st_ids.proofs.Public.{Precedes-left, Precedes-right, no_loop, unique_tail, in_order, reach_refl, reach_trans}
 use Rattle.st_sides.specs.Sides.{SidesValue, IsSides, edge_count, edge_tail, edge_head, face_left, face_right, ins, outs, dual}
-use Rattle.st_sides.proofs.FanLemmas.{order_out, order_in, order_out_beside, order_in_beside}
-use Rattle.st_sides.proofs.PlaceLists.{in_at, at_in}
+use Rattle.st_sides.proofs.Public.{order_out, order_in, order_out_beside, order_in_beside, in_at, at_in}
 use Rattle.st_picture.specs.Bars.{number_at}
-use Rattle.st_picture.proofs.FigureLemmas.{reach_grows}
+use Rattle.st_picture.proofs.Public.{reach_grows}
 use Rattle.draw_align.specs.declared.steps.Passage.{Passage}
 use Rattle.draw_align.specs.Crossing.{IsRanked, rank_of, Turned, TurnedBy, IsLeast, EarlierBy, EarlierAt, lesser_of}
 use Rattle.draw_align.specs.Faults.{AreThere, AreDisjoint}
 use Rattle.draw_align.specs.Listed.{path_at, IsPath, Cross, IsFirstCrossing}
-use Rattle.draw_align.specs.Steps.{Passes}
+use Rattle.draw_align.specs.Steps.{PassesThrough}
 use Rattle.draw_align.proofs.StepLemmas.{path_joined, next_place, one_path}
 
 -- ---- walks
@@ -86,18 +84,18 @@ module _ (g : SidesValue) (S : IsSides g) (c : List ℤ) (R : IsRanked g c) wher
 
   module _ (ps : List (List ℕ)) (A : AreThere g ps) (n : ℕ) (within : n ≤ length ps) (D : AreDisjoint g ps n) where
     -- a path that comes by an edge is the only one, and goes on by one edge
-    pub one_pass : (q r x y z : ℕ) → q < n → r < n → Passes g ps q x y → Passes g ps r x z → (q ≡ r) × (y ≡ z)
+    pub one_pass : (q r x y z : ℕ) → q < n → r < n → PassesThrough g ps q x y → PassesThrough g ps r x z → (q ≡ r) × (y ≡ z)
     one_pass q r x y z l m a b =
         let same : r ≡ q = one_path g ps n D r q x m l b.x_on a.x_on in
         (sym same, unique_tail S.acyclic (D q l).0.walk y z a.y_on (subst (λ w. In z (path_at ps w)) same b.y_on) (a.joined ∙ sym b.joined))
 
-    pub found : (p x y x' : ℕ) (s : Passage) → p ≤ n → s.path < p → Passes g ps s.path x' s.next.0 → Turned g c x y x' s.next.0 → IsLeast (EarlierBy g c ps p x y x') (Some s.path)
+    pub found : (p x y x' : ℕ) (s : Passage) → p ≤ n → s.path < p → PassesThrough g ps s.path x' s.next.0 → Turned g c x y x' s.next.0 → IsLeast (EarlierBy g c ps p x y x') (Some s.path)
     found p x y x' s pn l P t = (
       (l, record { y' = s.next.0; passes = P; turned = t }),
       λ r m B. (let b : r < p = B.0 in let k : s.path ≡ r = (one_pass s.path r x' s.next.0 B.1.y' (omega arith) (omega arith) P B.1.passes).0 in omega arith),
     )
 
-    pub not_turned : (p x y x' : ℕ) (s : Passage) → p ≤ n → s.path < p → Passes g ps s.path x' s.next.0 → (Turned g c x y x' s.next.0 → ⊥) → (r : ℕ) → EarlierBy g c ps p x y x' r → ⊥
+    pub not_turned : (p x y x' : ℕ) (s : Passage) → p ≤ n → s.path < p → PassesThrough g ps s.path x' s.next.0 → (Turned g c x y x' s.next.0 → ⊥) → (r : ℕ) → EarlierBy g c ps p x y x' r → ⊥
     not_turned p x y x' s pn l P other r B =
         let b : r < p = B.0 in
         other (subst (λ z. Turned g c x y x' z) (sym (one_pass s.path r x' s.next.0 B.1.y' (omega arith) (omega arith) P B.1.passes).1) B.1.turned)

@@ -7,19 +7,19 @@ use Rattle.std.proofs.lemmas.Bool.{cases_eq, cases_lt}
 use Rattle.st_ids.specs.declared.ids.EdgeId.{EdgeId}
 use Rattle.st_ids.specs.declared.ids.VertexId.{VertexId}
 use Rattle.st_sides.specs.Sides.{SidesValue, IsSides, edge_head}
-use Rattle.st_sides.proofs.PlaceLists.{in_at}
+use Rattle.st_sides.proofs.Public.{in_at}
 use Rattle.draw_align.specs.declared.path_fault.PathFault.{PathFault}
 use Rattle.draw_align.specs.declared.path_fault.PathFault.TheVariants.{NotAPath, SharedEdge, Crossing, NoMemory}
-use Rattle.draw_align.specs.Faults.{AreThere, IsUnshared, IsFaultOf, IsFirstFault}
+use Rattle.draw_align.specs.Faults.{AreThere, IsUnshared, IsFaultOf, IsFirstPathFault}
 use Rattle.draw_align.specs.Laws.{OneFaultLaw}
-use Rattle.draw_align.specs.Listed.{path_at, Cross, IsShared, IsFirstShared, IsFirstCrossing, IsSound}
+use Rattle.draw_align.specs.Listed.{path_at, Cross, IsShared, IsFirstShared, IsFirstCrossing, IsSoundPath}
 
 module _ (g : SidesValue) (S : IsSides g) (ps : List (List ℕ)) (A : AreThere g ps) where
   module _ (n : ℕ) (there : n < length ps) where
     shared_not : (e : ℕ) → IsFirstShared ps n e → IsUnshared ps n → ⊥
     shared_not e h none = none e (in_at e (path_at ps n) h.place h.there h.is) h.shared
 
-    unsound : (f : PathFault) → IsFaultOf g ps n f → IsSound g ps n → ⊥
+    unsound : (f : PathFault) → IsFaultOf g ps n f → IsSoundPath g ps n → ⊥
     unsound (NotAPath p) h s = h.1 s.is_path
     unsound (SharedEdge p e) h s = shared_not e.0 h.2 s.unshared
     unsound (Crossing p q v) h s =
@@ -86,7 +86,7 @@ module _ (g : SidesValue) (S : IsSides g) (ps : List (List ℕ)) (A : AreThere g
     same_fault (Crossing p q v) NoMemory h k = absurd k
     same_fault NoMemory f' h k = absurd h
 
-  same_path : (f f' : PathFault) → (h : IsFirstFault g ps f) → (k : IsFirstFault g ps f') → h.path ≡ k.path
+  same_path : (f f' : PathFault) → (h : IsFirstPathFault g ps f) → (k : IsFirstPathFault g ps f') → h.path ≡ k.path
   same_path f f' h k = elim (cases_eq h.path k.path) [
     | inl q ↦ q
     | inr d ↦ elim (cases_lt h.path k.path) [

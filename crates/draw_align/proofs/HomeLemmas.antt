@@ -4,16 +4,15 @@ use Rattle.std.proofs.Common.{ℕ, zero, suc, List, Option, Some, None, [], ◌�
 use Rattle.std.proofs.lemmas.Bool.{cases_eq, cases_lt}
 use Rattle.std.proofs.lemmas.List.{get_or_append_left, get_or_push, length_push}
 use Rattle.st_ids.specs.Lists.{In, here, NoRepeat}
-use Rattle.st_ids.proofs.FiniteLemmas.{length-le_from_below}
-use Rattle.st_ids.proofs.ListLemmas.{not_in_nil, In-cases, in_subst}
+use Rattle.st_ids.proofs.Public.{length-le_from_below, not_in_nil, In-cases, in_subst}
 use Rattle.st_sides.specs.Sides.{SidesValue, edge_count}
-use Rattle.st_sides.proofs.PlaceLists.{in_at, at_in}
+use Rattle.st_sides.proofs.Public.{in_at, at_in}
 use Rattle.draw_align.specs.declared.steps.Step.{Step}
 use Rattle.draw_align.specs.Alignment.{path_count, path_of}
 use Rattle.draw_align.specs.Faults.{AreThere, AreDisjoint}
 use Rattle.draw_align.specs.Homes.{HasPaths, IsHoming}
 use Rattle.draw_align.specs.Listed.{path_at, AreSound}
-use Rattle.draw_align.specs.Steps.{step_at, AreSteps}
+use Rattle.draw_align.specs.Steps.{step_in_table, AreSteps}
 use Rattle.draw_align.proofs.StepLemmas.{one_path}
 
 number_old : (xs : List ℕ) (x e : ℕ) → e < length xs → get_or (xs ++ x ∷ []) e 0 ≡ get_or xs e 0
@@ -64,7 +63,7 @@ module _ (g : SidesValue) (ps : List (List ℕ)) where
         let h = H.alone p l m in
         elim (In-cases (subst (λ z. In n z) h.2 i)) [ inl q ↦ (let k : h.0 < n = h.1 in omega arith) | inr k ↦ not_in_nil k ]
 
-    pub homing_listed : (s : Step) → step_at T n ≡ Some s → IsHoming g ps (n + 1) (homes ++ s.path ∷ []) next
+    pub homing_listed : (s : Step) → step_in_table T n ≡ Some s → IsHoming g ps (n + 1) (homes ++ s.path ∷ []) next
     homing_listed s q =
         let t = A.told n s q in
         let sl : s.path < length ps = t.0 in
@@ -106,7 +105,7 @@ module _ (g : SidesValue) (ps : List (List ℕ)) where
           ];
         }
 
-    pub homing_alone : step_at T n ≡ None → IsHoming g ps (n + 1) (homes ++ next ∷ []) (next + 1)
+    pub homing_alone : step_in_table T n ≡ None → IsHoming g ps (n + 1) (homes ++ next ∷ []) (next + 1)
     homing_alone q =
         let from : length ps ≤ next = H.from in
         let to : next ≤ length ps + n = H.to in

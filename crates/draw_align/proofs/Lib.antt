@@ -1,13 +1,14 @@
-pub mod AlignedLemmas
-pub mod AlignmentLemmas
-pub mod ApartLemmas
-pub mod BuiltLemmas
-pub mod ChoiceLemmas
-pub mod ConstrainedLemmas
-pub mod CrossLemmas
-pub mod FaultLemmas
-pub mod HomeLemmas
-pub mod PictureLemmas
-pub mod SameLemmas
-pub mod SomeLemmas
-pub mod StepLemmas
+mod AlignedLemmas
+mod AlignmentLemmas
+mod ApartLemmas
+mod BuiltLemmas
+mod ChoiceLemmas
+mod ConstrainedLemmas
+mod CrossLemmas
+mod FaultLemmas
+mod HomeLemmas
+mod PictureLemmas
+mod SameLemmas
+mod SomeLemmas
+mod StepLemmas
+pub mod Public

@@ -18,22 +18,18 @@ use Rattle.st_shape.specs.Rules.{Drawing}
 use Rattle.st_sides.specs.SidesOf.{IsSidesOf}
 use Rattle.st_sides.specs.Sides.{SidesValue, edge_count, edge_tail, edge_head, face_left, face_right, IsSides}
 use Rattle.st_number.specs.Greatest.{IsGreatest, IsHeight}
-use Rattle.st_number.proofs.BoundLemmas.{bounds_law, to_sides}
+use Rattle.st_number.proofs.Public.{bounds_law, to_sides, numbers_law}
 use Rattle.st_number.specs.Heights.{AreHeights, AreColumns}
 use Rattle.st_number.specs.Numbers.{AreWeights, GivesHeights}
-use Rattle.st_number.proofs.NumberLemmas.{numbers_law}
 use Rattle.draw_align.specs.Crossing.{IsRanked}
 use Rattle.st_picture.specs.Bars.{number_at, bars, bar, bar_start, upright, AreTables, HasFrame}
 use Rattle.st_picture.specs.Growing.{HasLines}
-use Rattle.st_picture.specs.Items.{at}
+use Rattle.st_picture.specs.Items.{grid_point}
 use Rattle.st_picture.specs.Naming.{vertex_name, edge_name}
-use Rattle.st_picture.proofs.JoinLemmas.{bars_same}
-use Rattle.st_picture.proofs.PlaceLemmas.{line_is}
-use Rattle.st_picture.proofs.SpanLemmas.{sink_in}
-use Rattle.st_picture.proofs.TableLemmas.{Has, number_of, naturals}
-use Rattle.draw_align.specs.Alignment.{path_count, path_of, node, alignment, alignment_weight}
+use Rattle.st_picture.proofs.Public.{bars_same, line_is, sink_in, Has, number_of, naturals}
+use Rattle.draw_align.specs.Alignment.{path_count, path_of, node_of_path, alignment, alignment_weight}
 use Rattle.draw_align.specs.Built.{AreNodeColumns, AreLines}
-use Rattle.draw_align.specs.Constrained.{line_of, IsConstrained, IsConstrainedBy, IsAligned, ConstrainedLaw}
+use Rattle.draw_align.specs.Constrained.{path_column, IsConstrained, IsConstrainedBy, IsAligned, ConstrainedLaw}
 use Rattle.draw_align.specs.Listed.{path_at, AreSound}
 use Rattle.draw_align.specs.Faults.{AreThere}
 use Rattle.draw_align.proofs.ConstrainedLemmas.{columns_grow, lines_between, constrained_drawn}
@@ -47,7 +43,7 @@ natural z k q = omega (arith, ints)
 -- ---- the edges of a listed path
 pub aligned_of : (g : SidesValue) (ps : List (List ℕ)) → ((p e : ℕ) → p < length ps → In e (path_at ps p) → e < edge_count g) → (w : ℕ → ℕ) (N : Names) (d : Drawing) → IsConstrained g w ps N d → IsAligned g ps d
 aligned_of g ps A w N d D p l = record {
-  column = pos (D.x (node g p));
+  column = pos (D.x (node_of_path g p));
   stands = λ e i.
       let home : path_of D.paths e ≡ p = D.completed.only_home p e (let s : length ps ≤ path_count D.paths = D.completed.size in omega arith) (subst (λ z. In e z) (sym (D.completed.listed p l)) i) in
       record {
@@ -56,9 +52,9 @@ aligned_of g ps A w N d D p l = record {
         head = vertex_name N (edge_head g e);
         low = pos (D.y (edge_tail g e));
         high = pos (D.y (edge_head g e));
-        is = subst (λ (z : Drawing). slice_get z.items (g.vertices + e) ≡ Some (Line (edge_name N e) (vertex_name N (edge_tail g e)) (vertex_name N (edge_head g e)) (at (D.x (node g p)) (D.y (edge_tail g e)) ∷ at (D.x (node g p)) (D.y (edge_head g e)) ∷ []))) (sym D.is)
-            (line_is g N Constrained (at (D.x g.t_star - 1) (D.y g.sink)) (bar g N D.y D.x) (upright g D.y (line_of g D.paths D.x)) (bar_start g D.y D.x) e (A p e l i)
-            ∙ ap (λ z. Some (Line (edge_name N e) (vertex_name N (edge_tail g e)) (vertex_name N (edge_head g e)) (at (D.x (node g z)) (D.y (edge_tail g e)) ∷ at (D.x (node g z)) (D.y (edge_head g e)) ∷ []))) home);
+        is = subst (λ (z : Drawing). slice_get z.items (g.vertices + e) ≡ Some (Line (edge_name N e) (vertex_name N (edge_tail g e)) (vertex_name N (edge_head g e)) (grid_point (D.x (node_of_path g p)) (D.y (edge_tail g e)) ∷ grid_point (D.x (node_of_path g p)) (D.y (edge_head g e)) ∷ []))) (sym D.is)
+            (line_is g N Constrained (grid_point (D.x g.t_star - 1) (D.y g.sink)) (bar g N D.y D.x) (upright g D.y (path_column g D.paths D.x)) (bar_start g D.y D.x) e (A p e l i)
+            ∙ ap (λ z. Some (Line (edge_name N e) (vertex_name N (edge_tail g e)) (vertex_name N (edge_head g e)) (grid_point (D.x (node_of_path g z)) (D.y (edge_tail g e)) ∷ grid_point (D.x (node_of_path g z)) (D.y (edge_head g e)) ∷ []))) home);
       };
 }
 
@@ -89,14 +85,14 @@ module _ (E : Embedded) (s t outer : ℕ) (g : SidesValue) (Q : IsSidesOf E s t 
     unfolding number_at
     number_is f = ap nat_abs (column_is f) ∙ abs_is (get_or cs f 0)
 
-    line_number : (e : ℕ) → e < edge_count g → number_at lines e ≡ line_of g C.paths.paths (number_at table) e
+    line_number : (e : ℕ) → e < edge_count g → number_at lines e ≡ path_column g C.paths.paths (number_at table) e
     unfolding number_at path_of
-    line_number e a = ap nat_abs (L.each e a) ∙ ap (λ z. nat_abs (get_or table (node g (get_or z e 0)) (pos 0))) (sym C.paths.homes_are)
+    line_number e a = ap nat_abs (L.each e a) ∙ ap (λ z. nat_abs (get_or table (node_of_path g (get_or z e 0)) (pos 0))) (sym C.paths.homes_are)
 
     columns_are : (f : ℕ) → f < g.t_star + 1 + path_count C.paths.paths → IsGreatest (alignment g C.paths.paths) (alignment_weight g) 0 f (number_at table f)
     columns_are f l = subst (IsGreatest (alignment g C.paths.paths) (alignment_weight g) 0 f) (sym (number_is f)) (C.greatest f (subst (λ z. f < g.t_star + 1 + z) C.paths.count l))
 
-    between : HasLines g (number_at table) (line_of g C.paths.paths (number_at table))
+    between : HasLines g (number_at table) (path_column g C.paths.paths (number_at table))
     between = lines_between g S ps sound C.paths.paths C.paths.completed (number_at table) columns_are
 
     pub tables_of : AreTables g hs table lines
@@ -108,7 +104,7 @@ module _ (E : Embedded) (s t outer : ℕ) (g : SidesValue) (Q : IsSidesOf E s t 
       };
       lines_are = record {
         size = (let q : length lines ≡ edge_count g = L.size in omega arith);
-        natural = λ e a. natural (get_or lines e (pos 0)) (get_or cs (node g (get_or homes e 0)) 0) (L.each e a ∙ column_is (node g (get_or homes e 0)));
+        natural = λ e a. natural (get_or lines e (pos 0)) (get_or cs (node_of_path g (get_or homes e 0)) 0) (L.each e a ∙ column_is (node_of_path g (get_or homes e 0)));
       };
       up = (numbers_law g S).heights_grow H.weight (number_at hs) weights are_heights;
       rightward = columns_grow g S ps sound C.paths.paths C.paths.completed (number_at table) columns_are;
@@ -140,7 +136,7 @@ module _ (E : Embedded) (s t outer : ℕ) (g : SidesValue) (Q : IsSidesOf E s t 
         heights = are_heights;
         completed = C.paths.completed;
         columns = columns_are;
-        is = q ∙ bars_same g S N Constrained (number_at hs) (number_at table) (number_at lines) (number_at hs) (number_at table) (line_of g C.paths.paths (number_at table)) (λ v l. refl) (λ f l. refl) line_number;
+        is = q ∙ bars_same g S N Constrained (number_at hs) (number_at table) (number_at lines) (number_at hs) (number_at table) (path_column g C.paths.paths (number_at table)) (λ v l. refl) (λ f l. refl) line_number;
       };
     }
 

@@ -6,16 +6,16 @@ use Rattle.std.proofs.Common.{ℕ, zero, suc, List, ◌≡◌, ◌<◌, ◌≤�
 use Rattle.std.proofs.lemmas.Bool.{cases_eq, cases_lt, le-ltb}
 use Rattle.st_ids.specs.Lists.{In, here}
 use Rattle.st_ids.specs.Walks.{Walk, stay, step}
-use Rattle.st_ids.proofs.WalkLemmas.{walk_from}
+use Rattle.st_ids.proofs.Public.{walk_from}
 use Rattle.st_ids.specs.declared.names.Names.{Names}
 use Rattle.st_shape.specs.declared.picture.Form.TheVariants.{Constrained}
 use Rattle.st_shape.specs.Rules.{Drawing}
 use Rattle.st_sides.specs.Sides.{SidesValue, IsSides, edge_count, face_left, face_right}
 use Rattle.st_number.specs.Greatest.{weigh, IsGreatest}
-use Rattle.st_number.proofs.NumberLemmas.{numbers_law}
-use Rattle.st_picture.proofs.JoinLemmas.{bars_same}
-use Rattle.draw_align.specs.Alignment.{Paths, path_count, path_of, AreCompleted, node, alignment, alignment_weight}
-use Rattle.draw_align.specs.Constrained.{IsConstrained, line_of}
+use Rattle.st_number.proofs.Public.{numbers_law}
+use Rattle.st_picture.proofs.Public.{bars_same}
+use Rattle.draw_align.specs.Alignment.{Paths, path_count, path_of, AreCompleted, node_of_path, alignment, alignment_weight}
+use Rattle.draw_align.specs.Constrained.{IsConstrained, path_column}
 use Rattle.draw_align.specs.Faults.{AreThere}
 use Rattle.draw_align.specs.Laws.{OnePictureLaw}
 use Rattle.draw_align.specs.Listed.{path_at}
@@ -98,12 +98,12 @@ module _ (g : SidesValue) (ps : List (List ℕ)) where
 -- ---- the columns
 module _ (g : SidesValue) (P Q : Paths) (same : (e : ℕ) → e < edge_count g → path_of P e ≡ path_of Q e) where
   from_same : (a : ℕ) → a < edge_count g + edge_count g → (alignment g P).from a ≡ (alignment g Q).from a
-  from_same a l = ap (λ z. cond (nat_lt a (edge_count g)) (face_left g a) (node g z)) (same (a - edge_count g) (omega arith))
+  from_same a l = ap (λ z. cond (nat_lt a (edge_count g)) (face_left g a) (node_of_path g z)) (same (a - edge_count g) (omega arith))
 
   to_same : (a : ℕ) → a < edge_count g + edge_count g → (alignment g P).to a ≡ (alignment g Q).to a
   to_same a l = elim (cases_lt a (edge_count g)) [
-    | inl m ↦ ap (λ z. cond (nat_lt a (edge_count g)) (node g z) (face_right g (a - edge_count g))) (same a m)
-    | inr m ↦ subst (λ c. cond c (node g (path_of P a)) (face_right g (a - edge_count g)) ≡ cond c (node g (path_of Q a)) (face_right g (a - edge_count g))) (sym (le-ltb a (edge_count g) m)) refl
+    | inl m ↦ ap (λ z. cond (nat_lt a (edge_count g)) (node_of_path g z) (face_right g (a - edge_count g))) (same a m)
+    | inr m ↦ subst (λ c. cond c (node_of_path g (path_of P a)) (face_right g (a - edge_count g)) ≡ cond c (node_of_path g (path_of Q a)) (face_right g (a - edge_count g))) (sym (le-ltb a (edge_count g) m)) refl
   ]
 
   walk_same : {u v : ℕ} {es : List ℕ} → Walk (alignment g P) u es v → Walk (alignment g Q) u es v
@@ -131,8 +131,8 @@ one_picture g S ps w N d d' C D =
     let b : D.x f ≤ C.x f = no_greater g Q P back f (D.x f) (C.x f) H G in
     omega arith in
     C.is
-    ∙ bars_same g S N Constrained C.y C.x (line_of g P C.x) D.y D.x (line_of g Q D.x) heights (λ f l. columns f (omega arith))
-    (λ e a. (let m : path_of P e < path_count P = C.completed.home_in e a in columns (node g (path_of P e)) (omega arith)) ∙ ap (λ z. D.x (node g z)) (homes e a))
+    ∙ bars_same g S N Constrained C.y C.x (path_column g P C.x) D.y D.x (path_column g Q D.x) heights (λ f l. columns f (omega arith))
+    (λ e a. (let m : path_of P e < path_count P = C.completed.home_in e a in columns (node_of_path g (path_of P e)) (omega arith)) ∙ ap (λ z. D.x (node_of_path g z)) (homes e a))
     ∙ sym D.is
 
 pub picture_law : (g : SidesValue) → IsSides g → (ps : List (List ℕ)) → AreThere g ps → OnePictureLaw g ps

@@ -13,15 +13,15 @@ use Rattle.st_shape.specs.declared.picture.Form.TheVariants.{Constrained}
 use Rattle.st_shape.specs.Rules.{Drawing}
 use Rattle.st_sides.specs.Sides.{SidesValue, IsSides, edge_count}
 use Rattle.st_number.specs.Greatest.{IsGreatest, GreatestLaw}
-use Rattle.st_number.proofs.NumberLemmas.{numbers_law}
+use Rattle.st_number.proofs.Public.{numbers_law}
 use Rattle.st_picture.specs.Bars.{bars}
 use Rattle.draw_align.specs.declared.steps.Step.{Step}
 use Rattle.draw_align.specs.Alignment.{path_count, alignment, alignment_weight}
-use Rattle.draw_align.specs.Constrained.{IsConstrained, line_of}
+use Rattle.draw_align.specs.Constrained.{IsConstrained, path_column}
 use Rattle.draw_align.specs.Faults.{AreThere}
 use Rattle.draw_align.specs.Homes.{IsHoming}
 use Rattle.draw_align.specs.Listed.{path_at, AreSound}
-use Rattle.draw_align.specs.Steps.{step_at, IsStep, AreSteps, IsNoting}
+use Rattle.draw_align.specs.Steps.{step_in_table, IsStep, AreSteps, IsNoting}
 use Rattle.draw_align.proofs.AlignmentLemmas.{alignment_law}
 use Rattle.draw_align.proofs.ConstrainedLemmas.{valid}
 use Rattle.draw_align.proofs.HomeLemmas.{homing_start, homing_listed, homing_alone, homing_end}
@@ -99,13 +99,13 @@ module _ (g : SidesValue) (ps : List (List ℕ)) (A : AreThere g ps) where
       record { list = P.list; is = subst (λ z. AreSteps g ps z P.list) e (noting_end g ps n P.list (length (path_at ps n)) P.is (omega arith)) }
 
   module _ (sound : AreSound g ps (length ps)) (B : Table g ps (length ps)) where
-    more : (n : ℕ) → Homed g ps n → (s : Option Step) → step_at B.list n ≡ s → Homed g ps (n + 1)
+    more : (n : ℕ) → Homed g ps n → (s : Option Step) → step_in_table B.list n ≡ s → Homed g ps (n + 1)
     more n H (Some s) q = record { homes = H.homes ++ s.path ∷ []; next = H.next; is = homing_listed g ps sound B.list B.is n H.next H.homes H.is s q }
     more n H None q = record { homes = H.homes ++ H.next ∷ []; next = H.next + 1; is = homing_alone g ps sound B.list B.is n H.next H.homes H.is q }
 
     homed : (n : ℕ) → Homed g ps n
     homed zero = record { homes = []; next = length ps; is = homing_start g ps }
-    homed (suc n) = (let e : n + 1 ≡ suc n = omega arith in subst (Homed g ps) e (more n (homed n) (step_at B.list n) refl))
+    homed (suc n) = (let e : n + 1 ≡ suc n = omega arith in subst (Homed g ps) e (more n (homed n) (step_in_table B.list n) refl))
 
   pub some_picture : IsSides g → AreSound g ps (length ps) → (w : ℕ → ℕ) (N : Names) → (d : Drawing) × IsConstrained g w ps N d
   some_picture S sound w N =
@@ -116,7 +116,7 @@ module _ (g : SidesValue) (ps : List (List ℕ)) (A : AreThere g ps) where
       let G = (alignment_law g S P (valid g S ps sound P E.completed)).greatest in
       let M = (numbers_law g S).some w in
       let x : ℕ → ℕ = λ f. pick (alignment g P) n (alignment_weight g) 0 G f (cases_lt f n) in (
-        bars g N Constrained M.0 x (line_of g P x),
+        bars g N Constrained M.0 x (path_column g P x),
         record {
           y = M.0;
           paths = P;

@@ -18,17 +18,16 @@ use Rattle.st_ids.specs.EdgeNumbers.{numbers}
 use Rattle.st_ids.specs.declared.ids.EdgeId.{EdgeId}
 use Rattle.st_ids.specs.Lists.{In, here, there}
 use Rattle.st_ids.specs.Walks.{Arcs, Walk, stay, step, IsAcyclic}
-use Rattle.st_ids.proofs.ListLemmas.{not_in_nil}
-use Rattle.st_ids.proofs.WalkLemmas.{walk_from, unique_tail, none_from_end}
+use Rattle.st_ids.proofs.Public.{not_in_nil, walk_from, unique_tail, none_from_end}
 use Rattle.st_sides.specs.Sides.{SidesValue, IsSides, edge_count, edge_tail, edge_head, primal}
-use Rattle.st_sides.proofs.PlaceLists.{in_at, at_in}
-use Rattle.st_number.proofs.PassLemmas.{number_at, numbers_size}
+use Rattle.st_sides.proofs.Public.{in_at, at_in}
+use Rattle.st_number.proofs.Public.{number_at, numbers_size}
 use Rattle.draw_align.specs.declared.steps.Step.{Step}
 use Rattle.draw_align.specs.declared.path_fault.PathFault.{PathFault}
 use Rattle.draw_align.specs.declared.path_fault.PathFault.TheVariants.{NotAPath, SharedEdge, Crossing, NoMemory}
 use Rattle.draw_align.specs.Faults.{AreThere, AreDisjoint, IsUnshared, IsFaultOf, IsPathFault}
 use Rattle.draw_align.specs.Listed.{path_at, IsPath, IsShared, AreSound}
-use Rattle.draw_align.specs.Steps.{step_at, IsStep, AreSteps, IsNoting, AreNoted, Passes}
+use Rattle.draw_align.specs.Steps.{step_in_table, IsStep, AreSteps, IsNoting, AreNoted, PassesThrough}
 
 -- ---- walks by places
 pub joined : {D : Arcs} {u v : ℕ} {es : List ℕ} → Walk D u es v → (k : ℕ) → suc k < length es → D.from (get_or es (suc k) 0) ≡ D.to (get_or es k 0)
@@ -107,12 +106,12 @@ pub at_there : (g : SidesValue) (ps : List (List ℕ)) → AreThere g ps → (p 
 at_there g ps A p l k m = A p (get_or (path_at ps p) k 0) l (in_at (get_or (path_at ps p) k 0) (path_at ps p) k m refl)
 
 -- ---- the table
-step_same : (T : List (Option Step)) (i : ℕ) (s : Option Step) → i < length T → step_at (set T i s) i ≡ s
-unfolding step_at
+step_same : (T : List (Option Step)) (i : ℕ) (s : Option Step) → i < length T → step_in_table (set T i s) i ≡ s
+unfolding step_in_table
 step_same T i s l = get_or-set_same T i s None l
 
-step_other : (T : List (Option Step)) (i j : ℕ) (s : Option Step) → j ≢ i → step_at (set T i s) j ≡ step_at T j
-unfolding step_at
+step_other : (T : List (Option Step)) (i j : ℕ) (s : Option Step) → j ≢ i → step_in_table (set T i s) j ≡ step_in_table T j
+unfolding step_in_table
 step_other T i j s d = get_or-set_other T i j s None d
 
 some_of : {s t : Step} → Some s ≡ Some t → s ≡ t
@@ -134,9 +133,9 @@ module _ (g : SidesValue) (ps : List (List ℕ)) (p : ℕ) where
     x_in : x < length T
     x_in = (let h : length T ≡ edge_count g = N.size in omega arith)
 
-    keep : (e : ℕ) → step_at (set T x (Some s)) e ≡ None → (step_at T e ≡ None → ⊥) → ⊥
+    keep : (e : ℕ) → step_in_table (set T x (Some s)) e ≡ None → (step_in_table T e ≡ None → ⊥) → ⊥
     keep e h n = elim (cases_eq e x) [
-      | inl r ↦ none_some (sym (step_same T x (Some s) x_in) ∙ subst (λ z. step_at (set T x (Some s)) z ≡ None) r h)
+      | inl r ↦ none_some (sym (step_same T x (Some s) x_in) ∙ subst (λ z. step_in_table (set T x (Some s)) z ≡ None) r h)
       | inr d ↦ n (sym (step_other T x e (Some s) d) ∙ h)
     ]
 
@@ -145,13 +144,13 @@ module _ (g : SidesValue) (ps : List (List ℕ)) (p : ℕ) where
       size = length-set T x (Some s) ∙ N.size;
       told = λ e t h. elim (cases_eq e x) [
         | inl r ↦
-            let w : s ≡ t = some_of (sym (step_same T x (Some s) x_in) ∙ subst (λ z. step_at (set T x (Some s)) z ≡ Some t) r h) in
+            let w : s ≡ t = some_of (sym (step_same T x (Some s) x_in) ∙ subst (λ z. step_in_table (set T x (Some s)) z ≡ Some t) r h) in
             subst (λ (z : Step). (z.path ≤ p) × IsStep ps e z) w ((let m : s.path ≡ p = q in omega arith), subst (λ z. IsStep ps z s) (sym r) S)
         | inr d ↦ N.told e t (sym (step_other T x e (Some s) d) ∙ h)
       ];
       full = λ r e m i h. keep e h (λ k. N.full r e m i k);
       noted = λ i m h. elim (cases_eq i k) [
-        | inl r ↦ none_some (sym (step_same T x (Some s) x_in) ∙ subst (λ z. step_at (set T x (Some s)) z ≡ None) (ap (λ z. get_or (path_at ps p) z 0) r ∙ xq) h)
+        | inl r ↦ none_some (sym (step_same T x (Some s) x_in) ∙ subst (λ z. step_in_table (set T x (Some s)) z ≡ None) (ap (λ z. get_or (path_at ps p) z 0) r ∙ xq) h)
         | inr d ↦ keep (get_or (path_at ps p) i 0) h (λ n. N.noted i (omega arith) n)
       ];
     }
@@ -166,16 +165,16 @@ module _ (g : SidesValue) (ps : List (List ℕ)) (p : ℕ) where
           let q : r ≡ p = omega arith in
           let at : (j : ℕ) × (j < length (path_at ps p)) × (get_or (path_at ps p) j 0 ≡ e) = at_in (subst (λ z. In e (path_at ps z)) q i) in
           let j : at.0 < length (path_at ps p) = at.1 in
-          (λ n. N.noted at.0 (omega arith) (subst (λ z. step_at T z ≡ None) (sym at.2) n))
+          (λ n. N.noted at.0 (omega arith) (subst (λ z. step_in_table T z ≡ None) (sym at.2) n))
     ];
   }
 
-  pub told_shared : (T : List (Option Step)) → AreSteps g ps p T → (e : ℕ) (s : Step) → step_at T e ≡ Some s → IsShared ps p e
+  pub told_shared : (T : List (Option Step)) → AreSteps g ps p T → (e : ℕ) (s : Step) → step_in_table T e ≡ Some s → IsShared ps p e
   told_shared T A e s q =
       let h = A.told e s q in
       record { other = s.path; earlier = h.0; on = in_at e (path_at ps s.path) h.1.place h.1.there h.1.is }
 
-  pub shared_told : (T : List (Option Step)) → AreSteps g ps p T → (e : ℕ) → step_at T e ≡ None → IsShared ps p e → ⊥
+  pub shared_told : (T : List (Option Step)) → AreSteps g ps p T → (e : ℕ) → step_in_table T e ≡ None → IsShared ps p e → ⊥
   shared_told T A e q h = A.full h.other e h.earlier h.on q
 
 pub noted_start : (g : SidesValue) (ps : List (List ℕ)) (T : List (Option Step)) → AreSteps g ps 0 T → AreNoted g ps 0 T
@@ -204,7 +203,7 @@ one_path g ps n D q r e l m i j = elim (cases_eq q r) [
 -- ---- what the table tells of paths that pass
 module _ (g : SidesValue) (S : IsSides g) (ps : List (List ℕ)) (A : AreThere g ps) (n : ℕ) (T : List (Option Step)) (N : AreNoted g ps n T) where
   -- where a path comes by e and goes on by y, it is the one that the table tells of, and y stands at the next place
-  step_place : (q e y : ℕ) (s : Step) → step_at T e ≡ Some s → q < n → Passes g ps q e y → (I : IsStep ps e s)
+  step_place : (q e y : ℕ) (s : Step) → step_in_table T e ≡ Some s → q < n → PassesThrough g ps q e y → (I : IsStep ps e s)
       → (q ≡ s.path) × (suc I.place < length (path_at ps s.path)) × (get_or (path_at ps s.path) (suc I.place) 0 ≡ y)
   step_place q e y s t l P I =
       let on : In e (path_at ps s.path) = in_at e (path_at ps s.path) I.place I.there I.is in
@@ -213,20 +212,20 @@ module _ (g : SidesValue) (S : IsSides g) (ps : List (List ℕ)) (A : AreThere g
       let h = next_place S.acyclic (N.disjoint s.path before).0.walk I.place y I.there (subst (λ z. In y (path_at ps z)) same P.y_on) (P.joined ∙ ap (edge_head g) (sym I.is)) in
       (same, h.0, h.1)
 
-  pub none_told : (e : ℕ) → step_at T e ≡ None → (q y : ℕ) → q < n → Passes g ps q e y → ⊥
+  pub none_told : (e : ℕ) → step_in_table T e ≡ None → (q y : ℕ) → q < n → PassesThrough g ps q e y → ⊥
   none_told e t q y l P = N.steps.full q e l P.x_on t
 
-  pub none_next : (e : ℕ) (s : Step) → step_at T e ≡ Some s → s.next ≡ None → (q y : ℕ) → q < n → Passes g ps q e y → ⊥
+  pub none_next : (e : ℕ) (s : Step) → step_in_table T e ≡ Some s → s.next ≡ None → (q y : ℕ) → q < n → PassesThrough g ps q e y → ⊥
   none_next e s t z q y l P =
       let I = (N.steps.told e s t).1 in
       let h : suc I.place < length (path_at ps s.path) = (step_place q e y s t l P I).1 in
       let k : length (path_at ps s.path) ≤ suc I.place = I.last z in
       omega arith
 
-  pub another_path : (e : ℕ) (s : Step) → step_at T e ≡ Some s → (q y : ℕ) → q < n → Passes g ps q e y → q ≡ s.path
+  pub another_path : (e : ℕ) (s : Step) → step_in_table T e ≡ Some s → (q y : ℕ) → q < n → PassesThrough g ps q e y → q ≡ s.path
   another_path e s t q y l P = (step_place q e y s t l P (N.steps.told e s t).1).0
 
-  pub passes_on : (e : ℕ) (s : Step) (d : EdgeId) → step_at T e ≡ Some s → s.next ≡ Some d → Passes g ps s.path e d.0
+  pub passes_on : (e : ℕ) (s : Step) (d : EdgeId) → step_in_table T e ≡ Some s → s.next ≡ Some d → PassesThrough g ps s.path e d.0
   passes_on e s d t z =
       let before : s.path < n = (N.steps.told e s t).0 in
       let I = (N.steps.told e s t).1 in
@@ -237,7 +236,7 @@ module _ (g : SidesValue) (S : IsSides g) (ps : List (List ℕ)) (A : AreThere g
         joined = ap (edge_tail g) (sym h.1) ∙ path_joined g (path_at ps s.path) (N.disjoint s.path before).0 I.place h.0 ∙ ap (edge_head g) I.is;
       }
 
-  pub next_there : (e : ℕ) (s : Step) (d : EdgeId) → step_at T e ≡ Some s → s.next ≡ Some d → d.0 < edge_count g
+  pub next_there : (e : ℕ) (s : Step) (d : EdgeId) → step_in_table T e ≡ Some s → s.next ≡ Some d → d.0 < edge_count g
   next_there e s d t z = (let before : s.path < n = (N.steps.told e s t).0 in let w : n ≤ length ps = N.within in A s.path d.0 (omega arith) (passes_on e s d t z).y_on)
 
 pub some_case : (r : Option Step) → is_some r ≡ true → (s : Step) × (r ≡ Some s)
@@ -248,8 +247,8 @@ pub none_case : (r : Option Step) → is_some r ≡ false → r ≡ None
 none_case (Some s) q = absurd (cc q)
 none_case None q = refl
 
-no_step : (n e : ℕ) (s : Step) → step_at (replicate n None) e ≡ Some s → ⊥
-unfolding step_at
+no_step : (n e : ℕ) (s : Step) → step_in_table (replicate n None) e ≡ Some s → ⊥
+unfolding step_in_table
 no_step zero e s q = cc q
 no_step (suc n) zero s q = cc q
 no_step (suc n) (suc e) s q = no_step n e s q
@@ -257,7 +256,7 @@ no_step (suc n) (suc e) s q = no_step n e s q
 pub no_steps : (g : SidesValue) (ps : List (List ℕ)) (T : List (Option Step)) → T ≡ replicate (edge_count g) None → AreSteps g ps 0 T
 no_steps g ps T q = record {
   size = ap length q ∙ length-replicate (edge_count g) None;
-  told = λ e s h. absurd (no_step (edge_count g) e s (subst (λ z. step_at z e ≡ Some s) q h));
+  told = λ e s h. absurd (no_step (edge_count g) e s (subst (λ z. step_in_table z e ≡ Some s) q h));
   full = λ r e l. absurd (omega arith);
 }
 

@@ -4,7 +4,7 @@
 --   path_count, path_of    how many lists, and in which an edge is
 --   AreValid g P           each edge is on one path, and no two paths cross
 --   AreCompleted g ps P    the listed paths, followed by a path for each edge that is in none of them
---   node                   the node of a path in the alignment graph, after those of the dual
+--   node_of_path           the node of a path in the alignment graph, after those of the dual
 --   alignment              the alignment graph; alignment_weight, the weights of its arcs
 --   AlignmentLaw g P       it has no cycle, and each node has one greatest weight of walks from node 0
 use Rattle.std.specs.Prelude.{ℕ, List, [], ◌∷◌, ◌≡◌, ◌≢◌, ◌<◌, ◌≤◌, ◌+◌, ◌-◌, length, slice_index_or, cond, nat_lt}
@@ -47,15 +47,15 @@ pub record AreCompleted (g : SidesValue) (ps : List (List ℕ)) (P : Paths) : Ty
   pub only_home : (p e : ℕ) → p < path_count P → In e (path_at P.lists p) → path_of P e ≡ p
 
 -- the node of path p
-abbrev pub node : SidesValue → ℕ → ℕ
-node g p = g.t_star + 1 + p
+abbrev pub node_of_path : SidesValue → ℕ → ℕ
+node_of_path g p = g.t_star + 1 + p
 
 -- Arc e leads from the left of edge e to its path, and arc E + e from its path to its right; E is the number of edges.
 abbrev pub alignment : SidesValue → Paths → Arcs
 alignment g P = record {
   count = edge_count g + edge_count g;
-  from = λ a. cond (nat_lt a (edge_count g)) (face_left g a) (node g (path_of P (a - edge_count g)));
-  to = λ a. cond (nat_lt a (edge_count g)) (node g (path_of P a)) (face_right g (a - edge_count g));
+  from = λ a. cond (nat_lt a (edge_count g)) (face_left g a) (node_of_path g (path_of P (a - edge_count g)));
+  to = λ a. cond (nat_lt a (edge_count g)) (node_of_path g (path_of P a)) (face_right g (a - edge_count g));
 }
 
 -- the arcs to paths weigh 0, those from paths 1

@@ -8,22 +8,22 @@ use Rattle.std.specs.Prelude.{ℕ, ℤ, pos, List, ◌≡◌, ◌<◌, ◌≤◌
 use Rattle.st_ids.specs.Graph.{Graph, tail_of, head_of}
 use Rattle.st_sides.specs.Sides.{SidesValue, edge_count, face_left, face_right}
 use Rattle.st_number.specs.Greatest.{IsGreatest}
-use Rattle.draw_align.specs.Alignment.{alignment, alignment_weight, node}
+use Rattle.draw_align.specs.Alignment.{alignment, alignment_weight, node_of_path}
 use Rattle.draw_align.specs.Homes.{HasPaths}
 
 -- where arc a leads from
 abbrev pub arc_from : SidesValue → List ℕ → ℕ → ℕ
-arc_from g homes a = cond (nat_lt a (edge_count g)) (face_left g a) (node g (slice_index_or homes (a - edge_count g) 0))
+arc_from g homes a = cond (nat_lt a (edge_count g)) (face_left g a) (node_of_path g (slice_index_or homes (a - edge_count g) 0))
 
 -- where arc a leads to
 abbrev pub arc_to : SidesValue → List ℕ → ℕ → ℕ
-arc_to g homes a = cond (nat_lt a (edge_count g)) (node g (slice_index_or homes a 0)) (face_right g (a - edge_count g))
+arc_to g homes a = cond (nat_lt a (edge_count g)) (node_of_path g (slice_index_or homes a 0)) (face_right g (a - edge_count g))
 
 -- each edge has a path whose node is below n
 pub record HasHomes (g : SidesValue) (homes : List ℕ) (n : ℕ) : Type 0 where
   pub size : length homes ≡ edge_count g
   pub first : g.t_star < n
-  pub within : (e : ℕ) → e < edge_count g → node g (slice_index homes e) < n
+  pub within : (e : ℕ) → e < edge_count g → node_of_path g (slice_index homes e) < n
 
 -- the first m arcs of the alignment graph
 pub record IsBuilt (g : SidesValue) (homes : List ℕ) (n m : ℕ) (D : Graph) : Type 0 where
@@ -47,4 +47,4 @@ pub record AreNodeColumns (g : SidesValue) (ps : List (List ℕ)) (homes : List 
 -- The line of each edge stands in the column of its path.
 pub record AreLines (g : SidesValue) (homes : List ℕ) (columns : List ℤ) (m : ℕ) (lines : List ℤ) : Type 0 where
   pub size : length lines ≡ m
-  pub each : (e : ℕ) → e < m → slice_index_or lines e (pos 0) ≡ slice_index_or columns (node g (slice_index homes e)) (pos 0)
+  pub each : (e : ℕ) → e < m → slice_index_or lines e (pos 0) ≡ slice_index_or columns (node_of_path g (slice_index homes e)) (pos 0)

@@ -1,10 +1,10 @@
 -- The constrained visibility picture: the edges of each path stand in one column.
 -- Letters: g sides, w weights of the edges, ps the listed paths, N names, d picture, y heights, x columns of the nodes of the
 -- alignment graph, P all paths, v vertex, e edge.
---   line_of g P x e        the column of the path of e
---   IsConstrained g w ps N d   d is the constrained visibility picture of the paths under the weights w
---   IsAligned g ps d       the edges of each listed path stand in one column
---   ConstrainedLaw g ps    each such picture is drawn right, and its paths are aligned
+--   path_column g P x e       the column of the path of e
+--   IsConstrained g w ps N d  d is the constrained visibility picture of the paths under the weights w
+--   IsAligned g ps d          the edges of each listed path stand in one column
+--   ConstrainedLaw g ps       each such picture is drawn right, and its paths are aligned
 use Rattle.std.specs.Prelude.{ℕ, ℤ, List, [], ◌∷◌, ◌≡◌, ◌<◌, ◌+◌, Some, length, slice_get}
 use Rattle.st_ids.specs.declared.ids.EdgeId.{EdgeId}
 use Rattle.st_ids.specs.declared.names.Names.{Names}
@@ -18,12 +18,12 @@ use Rattle.st_number.specs.Numbers.{AreWeights, GivesHeights}
 use Rattle.st_picture.specs.Bars.{bars}
 use Rattle.st_picture.specs.Drawn.{IsDrawn}
 use Rattle.st_picture.specs.Naming.{AreNames}
-use Rattle.draw_align.specs.Alignment.{Paths, path_count, path_of, AreCompleted, node, alignment, alignment_weight}
+use Rattle.draw_align.specs.Alignment.{Paths, path_count, path_of, AreCompleted, node_of_path, alignment, alignment_weight}
 use Rattle.draw_align.specs.Listed.{path_at}
 
 -- the column of the path of e
-abbrev pub line_of : SidesValue → Paths → (ℕ → ℕ) → ℕ → ℕ
-line_of g P x e = x (node g (path_of P e))
+abbrev pub path_column : SidesValue → Paths → (ℕ → ℕ) → ℕ → ℕ
+path_column g P x e = x (node_of_path g (path_of P e))
 
 -- The bar of a vertex lies at its height, from the column of its left to the one before that of its right; the line of an
 -- edge stands in the column of its path.
@@ -34,7 +34,7 @@ pub record IsConstrained (g : SidesValue) (w : ℕ → ℕ) (ps : List (List ℕ
   pub heights : GivesHeights g w y
   pub completed : AreCompleted g ps paths
   pub columns : (f : ℕ) → f < g.t_star + 1 + path_count paths → IsGreatest (alignment g paths) (alignment_weight g) 0 f (x f)
-  pub is : d ≡ bars g N Constrained y x (line_of g paths x)
+  pub is : d ≡ bars g N Constrained y x (path_column g paths x)
 
 -- The picture is that under weights from 1, of which each is one that a closure may answer on the edge.
 pub record IsConstrainedBy (answer : EdgeId → ℕ → Type 0) (g : SidesValue) (ps : List (List ℕ)) (N : Names) (d : Drawing) : Type 0 where

@@ -15,7 +15,7 @@ use Rattle.st_sides.specs.Sides.{SidesValue, edge_count, edge_head, face_left, i
 use Rattle.st_picture.specs.Bars.{number_at, HasNaturals}
 use Rattle.st_picture.specs.Growing.{GrowsRight}
 use Rattle.draw_align.specs.declared.steps.Passage.{Passage}
-use Rattle.draw_align.specs.Steps.{Passes}
+use Rattle.draw_align.specs.Steps.{PassesThrough}
 
 -- columns that grow along the arcs of the dual
 pub record IsRanked (g : SidesValue) (c : List ℤ) : Type 0 where
@@ -34,7 +34,7 @@ Turned g c x y x' y' = ((rank_of g c x < rank_of g c x') × (rank_of g c y' < ra
 -- path q comes by x' and goes on by y', so that the order turns
 pub record TurnedBy (g : SidesValue) (c : List ℤ) (ps : List (List ℕ)) (q x y x' : ℕ) : Type 0 where
   pub y' : ℕ
-  pub passes : Passes g ps q x' y'
+  pub passes : PassesThrough g ps q x' y'
   pub turned : Turned g c x y x' y'
 
 -- r is the least number with the property, or nothing where there is none
@@ -69,12 +69,12 @@ pub record PassesAt (g : SidesValue) (ps : List (List ℕ)) (n v k : ℕ) (s : P
   pub place : ℕ
   pub there : place < k
   pub before : s.path < n
-  pub passes : Passes g ps s.path (slice_index (ins g v) place) s.next.0
+  pub passes : PassesThrough g ps s.path (slice_index (ins g v) place) s.next.0
 
 -- Those of the first n paths that come to v by its first k edges in go on in the order in which they come; the last of them
 -- is known.
 pub record IsSorted (g : SidesValue) (c : List ℤ) (ps : List (List ℕ)) (n v k : ℕ) (last : Option Passage) : Type 0 where
   pub there : IfSome last (λ s. s.next.0 < edge_count g)
   pub held : (s : Passage) → last ≡ Some s → PassesAt g ps n v k s
-  pub most : (i q y : ℕ) → i < k → q < n → Passes g ps q (slice_index (ins g v) i) y → (s : Passage) × (last ≡ Some s) × (rank_of g c y ≤ rank_of g c s.next.0)
-  pub sorted : (i j q r y z : ℕ) → i < j → j < k → q < n → r < n → Passes g ps q (slice_index (ins g v) i) y → Passes g ps r (slice_index (ins g v) j) z → rank_of g c y < rank_of g c z
+  pub most : (i q y : ℕ) → i < k → q < n → PassesThrough g ps q (slice_index (ins g v) i) y → (s : Passage) × (last ≡ Some s) × (rank_of g c y ≤ rank_of g c s.next.0)
+  pub sorted : (i j q r y z : ℕ) → i < j → j < k → q < n → r < n → PassesThrough g ps q (slice_index (ins g v) i) y → PassesThrough g ps r (slice_index (ins g v) j) z → rank_of g c y < rank_of g c z

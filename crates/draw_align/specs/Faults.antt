@@ -1,12 +1,12 @@
 -- Which fault listed paths have: path by path in their order, and for each path in the order of the cases.
 -- Letters: g sides, ps paths, n how many of the first paths, p and q numbers of paths, e edge, v vertex.
---   AreThere               the edges of each path are edges of the graph
---   IsUnshared             no edge of a path is in an earlier one
---   AreDisjoint            the first n paths are walks that share no edges
---   AreApartAt, AreApart   no two of the first n paths cross, at v or at all
---   IsFaultOf              the fault of a path, if it is the first that has one
---   IsFaultAt, IsFaultAmong   the fault of the path after the first n, and of one of the first n
---   IsFirstFault, IsPathFault   the first fault of all paths, and the answer
+--   AreThere                       the edges of each path are edges of the graph
+--   IsUnshared                     no edge of a path is in an earlier one
+--   AreDisjoint                    the first n paths are walks that share no edges
+--   AreApartAt, AreApart           no two of the first n paths cross, at v or at all
+--   IsFaultOf                      the fault of a path, if it is the first that has one
+--   IsFaultAt, IsFaultAmong        the fault of the path after the first n, and of one of the first n
+--   IsFirstPathFault, IsPathFault  the first fault of all paths, and the answer
 use Rattle.std.specs.Prelude.{ℕ, List, ◌≡◌, ◌<◌, length}
 use Rattle.st_ids.specs.Lists.{In}
 use Rattle.st_sides.specs.Sides.{SidesValue, edge_count}
@@ -53,7 +53,7 @@ pub record IsFaultAmong (g : SidesValue) (ps : List (List ℕ)) (n : ℕ) (f : P
   pub fault : IsFaultOf g ps path f
 
 -- the fault is that of a path before which all are sound
-pub record IsFirstFault (g : SidesValue) (ps : List (List ℕ)) (f : PathFault) : Type 0 where
+pub record IsFirstPathFault (g : SidesValue) (ps : List (List ℕ)) (f : PathFault) : Type 0 where
   pub path : ℕ
   pub there : path < length ps
   pub before : AreSound g ps path
@@ -61,7 +61,7 @@ pub record IsFirstFault (g : SidesValue) (ps : List (List ℕ)) (f : PathFault) 
 
 -- the first fault of the paths; want of memory alone is free
 abbrev pub IsPathFault : SidesValue → List (List ℕ) → PathFault → Type 0
-IsPathFault g ps (NotAPath p) = IsFirstFault g ps (NotAPath p)
-IsPathFault g ps (SharedEdge p e) = IsFirstFault g ps (SharedEdge p e)
-IsPathFault g ps (Crossing p q v) = IsFirstFault g ps (Crossing p q v)
+IsPathFault g ps (NotAPath p) = IsFirstPathFault g ps (NotAPath p)
+IsPathFault g ps (SharedEdge p e) = IsFirstPathFault g ps (SharedEdge p e)
+IsPathFault g ps (Crossing p q v) = IsFirstPathFault g ps (Crossing p q v)
 IsPathFault g ps NoMemory = Unit {0}

@@ -8,7 +8,7 @@ use Rattle.st_shape.specs.Rules.{Drawing}
 use Rattle.st_sides.specs.Sides.{SidesValue}
 use Rattle.draw_align.specs.declared.path_fault.PathFault.{PathFault}
 use Rattle.draw_align.specs.Constrained.{IsConstrained}
-use Rattle.draw_align.specs.Faults.{IsFirstFault}
+use Rattle.draw_align.specs.Faults.{IsFirstPathFault}
 use Rattle.draw_align.specs.Listed.{AreSound}
 
 -- For all weights and names sound paths have a constrained picture, and two such pictures are the same.
@@ -18,5 +18,5 @@ pub record OnePictureLaw (g : SidesValue) (ps : List (List ℕ)) : Type 0 where
 
 -- Two first faults are the same, and where the paths are sound there is none.
 pub record OneFaultLaw (g : SidesValue) (ps : List (List ℕ)) : Type 0 where
-  pub one : (f f' : PathFault) → IsFirstFault g ps f → IsFirstFault g ps f' → f ≡ f'
-  pub none : (f : PathFault) → AreSound g ps (length ps) → IsFirstFault g ps f → ⊥
+  pub one : (f f' : PathFault) → IsFirstPathFault g ps f → IsFirstPathFault g ps f' → f ≡ f'
+  pub none : (f : PathFault) → AreSound g ps (length ps) → IsFirstPathFault g ps f → ⊥

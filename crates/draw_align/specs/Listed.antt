@@ -1,13 +1,13 @@
 -- Listed paths of a planar st-graph, and what may be wrong with them.
 -- Letters: g sides, ps paths, p and q numbers of paths from 0, es and fs lists of edges, e edge, v vertex.
---   path_at ps p           the edges of path p
---   IsPath g es            the edges are a walk, and there is one at least
---   CrossRightward, Cross  two walks cross at v
---   IsShared ps p e        e is in a path before path p
---   IsSound g ps p         path p is a walk that shares no edge with an earlier path and crosses none
---   AreSound g ps n        each of the first n paths is
---   IsFirstShared ps p e   e is the first edge of path p that is in an earlier path
---   IsFirstCrossing g ps p q v   v is the first vertex along path p at which it crosses an earlier path, and q the least such
+--   path_at ps p                the edges of path p
+--   IsPath g es                 the edges are a walk, and there is one at least
+--   CrossRightward, Cross       two walks cross at v
+--   IsShared ps p e             e is in a path before path p
+--   IsSoundPath g ps p          path p is a walk that shares no edge with an earlier path and crosses none
+--   AreSound g ps n             each of the first n paths is
+--   IsFirstShared ps p e        e is the first edge of path p that is in an earlier path
+--   IsFirstCrossing g ps p q v  v is the first vertex along path p at which it crosses an earlier path, and q the least such
 use Rattle.std.specs.Prelude.{ℕ, List, [], ◌≡◌, ◌<◌, ◌⊎◌, length, slice_index, slice_index_or}
 use Rattle.st_ids.specs.Lists.{In, Precedes}
 use Rattle.st_ids.specs.Walks.{Walk}
@@ -49,14 +49,14 @@ pub record IsShared (ps : List (List ℕ)) (p e : ℕ) : Type 0 where
   pub on : In e (path_at ps other)
 
 -- Path p is a walk of at least one edge; it shares no edge with an earlier path, and crosses none.
-pub record IsSound (g : SidesValue) (ps : List (List ℕ)) (p : ℕ) : Type 0 where
+pub record IsSoundPath (g : SidesValue) (ps : List (List ℕ)) (p : ℕ) : Type 0 where
   pub is_path : IsPath g (path_at ps p)
   pub unshared : (e : ℕ) → In e (path_at ps p) → IsShared ps p e → ⊥
   pub uncrossed : (q v : ℕ) → q < p → v < g.vertices → Cross g (path_at ps p) (path_at ps q) v → ⊥
 
 -- each of the first n paths is sound
 abbrev pub AreSound : SidesValue → List (List ℕ) → ℕ → Type 0
-AreSound g ps n = (p : ℕ) → p < n → IsSound g ps p
+AreSound g ps n = (p : ℕ) → p < n → IsSoundPath g ps p
 
 -- e is the first edge along path p that is in an earlier path
 pub record IsFirstShared (ps : List (List ℕ)) (p e : ℕ) : Type 0 where

@@ -6,7 +6,7 @@ ghost use Rattle.draw_align.specs.Constrained.{IsAligned, IsConstrainedBy};
 ghost use Rattle.draw_align.specs.Faults.{AreThere, IsPathFault};
 ghost use Rattle.draw_align.specs.Homes.{HasPaths};
 ghost use Rattle.draw_align.specs.Listed.{AreSound};
-ghost use Rattle.st_number.specs.Weighing.{IsLawful};
+ghost use Rattle.st_number.specs.Weighing.{AreLawfulWeights};
 ghost use Rattle.st_picture.specs.Drawn.{IsDrawn};
 ghost use Rattle.st_picture.specs.Naming.{AreNames};
 ghost use Rattle.st_sides.specs.Sides.{edge_count};
@@ -78,7 +78,7 @@ pub fn constrained<F: Fn(EdgeId) -> u32>(
     requires sides { IsSidesOf graph.now.map.graph graph.now.source graph.now.sink graph.now.outer sides.now }
     requires names { AreNames sides.now names.now }
     requires weights { w.now.edges ≡ edge_count sides.now }
-    requires lawful { IsLawful F.pre F.post w.now }
+    requires lawful { AreLawfulWeights F.pre F.post w.now }
     requires high { sides.now.vertices * w.now.most ≤ MOST_COORDINATE }
     requires wide { edge_count sides.now ≤ MOST_COORDINATE }
     requires edges { AreThere sides.now paths.now }
@@ -111,7 +111,7 @@ fn draw<F: Fn(EdgeId) -> u32>(
     requires sides { IsSidesOf graph.now.map.graph graph.now.source graph.now.sink graph.now.outer sides.now }
     requires names { AreNames sides.now names.now }
     requires weights { w.now.edges ≡ edge_count sides.now }
-    requires lawful { IsLawful F.pre F.post w.now }
+    requires lawful { AreLawfulWeights F.pre F.post w.now }
     requires high { sides.now.vertices * w.now.most ≤ MOST_COORDINATE }
     requires wide { edge_count sides.now ≤ MOST_COORDINATE }
     requires sound { AreSound sides.now paths.now (length paths.now) }

@@ -3,7 +3,7 @@ ghost use Rattle.std.specs.Prelude.{◌≡◌, ◌+◌, ◌<◌, ◌≤◌, ℕ,
 ghost use Rattle.std.specs.List.{All};
 ghost use Rattle.draw_align.specs.Faults.{AreThere, IsUnshared};
 ghost use Rattle.draw_align.specs.Listed.{IsFirstShared, path_at};
-ghost use Rattle.draw_align.specs.Steps.{AreNoted, AreSteps, Passes, step_at};
+ghost use Rattle.draw_align.specs.Steps.{AreNoted, AreSteps, PassesThrough, step_in_table};
 ghost use Rattle.st_ids.specs.EdgeNumbers.{numbers};
 ghost use Rattle.st_sides.specs.Sides.{SidesValue, edge_count};
 
@@ -42,10 +42,10 @@ pub(crate) fn path_in<'a>(sides: &Sides, paths: &'a PathList, p: u32) -> &'a [Ed
 }
 
 /// What the table tells of the edge.
-#[tactic(auto, unfolding(crate::specs::Steps::step_at))]
+#[tactic(auto, unfolding(crate::specs::Steps::step_in_table))]
 pub(crate) fn step_of(steps: &IdVec<EdgeId, Option<Step>>, e: EdgeId) -> Option<Step>
     requires { e.0 < length steps.now }
-    ensures { result ≡ step_at steps.now e.0 }
+    ensures { result ≡ step_in_table steps.now e.0 }
 {
     *steps.get(e)
 }
@@ -62,9 +62,9 @@ pub(crate) fn passing(
     requires noted { AreNoted sides.now paths.now noted.now.count noted.now.table }
     requires within { n ≤ noted.now.count }
     requires there { e.0 < edge_count sides.now }
-    ensures some { IfSome result (λ s. (s.path < n) × Passes sides.now paths.now s.path e.0 s.next.0) }
+    ensures some { IfSome result (λ s. (s.path < n) × PassesThrough sides.now paths.now s.path e.0 s.next.0) }
     ensures there { IfSome result (λ s. s.next.0 < edge_count sides.now) }
-    ensures none { result ≡ None → (q y : ℕ) → q < n → Passes sides.now paths.now q e.0 y → ⊥ }
+    ensures none { result ≡ None → (q y : ℕ) → q < n → PassesThrough sides.now paths.now q e.0 y → ⊥ }
 {
     laws::local(sides);
     let step = match step_of(&noted.table, e) {

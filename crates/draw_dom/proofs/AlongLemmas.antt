@@ -14,11 +14,11 @@ use Rattle.std.proofs.lemmas.Option.{get_or_from_slice_get}
 use Rattle.st_shape.specs.declared.point.Point.{Point}
 use Rattle.st_order.specs.Laws.{IsNumbering}
 use Rattle.st_order.specs.Numbers.{AreNumberings}
-use Rattle.st_order.proofs.NumberLemmas.{Chosen, chosen}
-use Rattle.st_picture.specs.Items.{at, origin}
-use Rattle.st_picture.proofs.NaturalLemmas.{pos_same, pos_most}
+use Rattle.st_order.proofs.Public.{Chosen, chosen}
+use Rattle.st_picture.specs.Items.{grid_point, origin}
+use Rattle.st_picture.proofs.Public.{pos_same, pos_most}
 use Rattle.draw_dom.specs.Compact.{growth, steps, point_x, point_y}
-use Rattle.draw_dom.specs.Points.{number_of, IsNumberList, AreNumberLists, AreVerticesOf, ArePlaces, ArePoints, AreCompactPoints, CompareAsBoth, point_of}
+use Rattle.draw_dom.specs.Points.{vertex_number, IsNumberList, AreNumberLists, AreVerticesOf, AreCompactPlaces, ArePoints, AreCompactPoints, CompareAsBoth, vertex_point}
 use Rattle.draw_dom.proofs.CompactLemmas.{compact_law}
 
 pub place_next : (f : ℕ → ℕ) (k place : ℕ) → 0 < k → place ≡ steps f (k - 1) → place + growth (f (k - 1)) (f k) ≡ steps f k
@@ -58,25 +58,25 @@ pub read_back : (z : ℤ) (n : ℕ) → z ≡ pos n → n < 2 ^ 32 → to_z w64 
 read_back z n e h = omega (arith, ints)
 
 -- ---- the vertices of the numbers
-as_relation : (xs : List ℕ) → IsNumberList xs → IsNumbering (length xs) (λ v k. number_of xs v ≡ k)
+as_relation : (xs : List ℕ) → IsNumberList xs → IsNumbering (length xs) (λ v k. vertex_number xs v ≡ k)
 as_relation xs N = record {
-  some = λ v l. (number_of xs v, refl);
+  some = λ v l. (vertex_number xs v, refl);
   one = λ v j k p q. sym p ∙ q;
   below = λ v k l p. subst (λ z. z < length xs) p (N.below v l);
   different = λ u v k l m p q. N.different u v l m (p ∙ sym q);
   onto = N.onto;
 }
 
-pub vertices_of : (xs : List ℕ) → IsNumberList xs → Chosen (length xs) (λ v k. number_of xs v ≡ k)
-vertices_of xs N = chosen (length xs) (λ v k. number_of xs v ≡ k) (as_relation xs N)
+pub vertices_of : (xs : List ℕ) → IsNumberList xs → Chosen (length xs) (λ v k. vertex_number xs v ≡ k)
+vertices_of xs N = chosen (length xs) (λ v k. vertex_number xs v ≡ k) (as_relation xs N)
 
 module _ (xs ys : List ℕ) (N : AreNumberLists xs ys) where
-  numberings : (C : Chosen (length xs) (λ v k. number_of xs v ≡ k)) (D : Chosen (length ys) (λ v k. number_of ys v ≡ k)) → AreNumberings (length xs) (number_of xs) (number_of ys) C.at D.at
+  numberings : (C : Chosen (length xs) (λ v k. vertex_number xs v ≡ k)) (D : Chosen (length ys) (λ v k. vertex_number ys v ≡ k)) → AreNumberings (length xs) (vertex_number xs) (vertex_number ys) C.at D.at
   numberings C D =
       let e = N.same in
       record {
         x_in = N.x.below;
-        y_in = λ v l. (let m : number_of ys v < length ys = N.y.below v (omega arith) in omega arith);
+        y_in = λ v l. (let m : vertex_number ys v < length ys = N.y.below v (omega arith) in omega arith);
         at_x_in = C.at_in;
         at_y_in = λ k l. (let m : D.at k < length ys = D.at_in k (omega arith) in omega arith);
         at_x_of = λ v l. ap C.at (C.is v l) ∙ C.at_of v l;
@@ -85,8 +85,8 @@ module _ (xs ys : List ℕ) (N : AreNumberLists xs ys) where
         y_of_at = λ k l. D.is (D.at k) (D.at_in k (omega arith)) ∙ D.of_at k (omega arith);
       }
 
-  pub compact_points : (columns rows : List ℕ) (points : List Point) → ArePlaces xs ys columns → ArePlaces ys xs rows → length points ≡ length xs
-      → ((v : ℕ) → v < length xs → slice_get points v ≡ Some (at (get_or columns v 0) (get_or rows v 0))) → AreCompactPoints xs ys points
+  pub compact_points : (columns rows : List ℕ) (points : List Point) → AreCompactPlaces xs ys columns → AreCompactPlaces ys xs rows → length points ≡ length xs
+      → ((v : ℕ) → v < length xs → slice_get points v ≡ Some (grid_point (get_or columns v 0) (get_or rows v 0))) → AreCompactPoints xs ys points
   compact_points columns rows points P Q size each =
       let C = vertices_of xs N.x in
       let D = vertices_of ys N.y in
@@ -99,14 +99,14 @@ module _ (xs ys : List ℕ) (N : AreNumberLists xs ys) where
         numberings = numberings C D;
         are = record {
           size = size;
-          each = λ v l. each v l ∙ ap (λ z. Some (at z (get_or rows v 0))) (P.each C.at A v l) ∙ ap (λ z. Some (at (point_x (number_of xs) (number_of ys) C.at v) z)) (Q.each D.at B v (omega arith));
+          each = λ v l. each v l ∙ ap (λ z. Some (grid_point z (get_or rows v 0))) (P.each C.at A v l) ∙ ap (λ z. Some (grid_point (point_x (vertex_number xs) (vertex_number ys) C.at v) z)) (Q.each D.at B v (omega arith));
         };
       }
 
 -- ---- the law
-pub point_is : (px py : ℕ → ℕ) (n : ℕ) (points : List Point) → ArePoints px py n points → (v : ℕ) → v < n → point_of points v ≡ at (px v) (py v)
-unfolding point_of
-point_is px py n points P v l = get_or_from_slice_get points v (at (px v) (py v)) origin (P.each v l)
+pub point_is : (px py : ℕ → ℕ) (n : ℕ) (points : List Point) → ArePoints px py n points → (v : ℕ) → v < n → vertex_point points v ≡ grid_point (px v) (py v)
+unfolding vertex_point
+point_is px py n points P v l = get_or_from_slice_get points v (grid_point (px v) (py v)) origin (P.each v l)
 
 x_same : (p q : Point) → p ≡ q → p.x ≡ q.x
 x_same p q e = ap (λ (r : Point). r.x) e
@@ -119,8 +119,8 @@ most_pos a b h = omega (arith, ints)
 
 pub compare : (xs ys : List ℕ) (points : List Point) → AreCompactPoints xs ys points → CompareAsBoth xs ys points
 compare xs ys points P =
-    let X = number_of xs in
-    let Y = number_of ys in
+    let X = vertex_number xs in
+    let Y = vertex_number ys in
     let px = point_x X Y P.at_x in
     let py = point_y X Y P.at_y in
     let L = compact_law (length xs) X Y P.at_x P.at_y P.numberings in
@@ -129,17 +129,17 @@ compare xs ys points P =
       different = λ u v i j q. elim (cases_eq u v) [
         | inl e ↦ e
         | inr n ↦
-            let r : at (px u) (py u) ≡ at (px v) (py v) = sym (is u i) ∙ q ∙ is v j in
-            absurd (L.different u v i j n (pos_same (x_same (at (px u) (py u)) (at (px v) (py v)) r)) (pos_same (y_same (at (px u) (py u)) (at (px v) (py v)) r)))
+            let r : grid_point (px u) (py u) ≡ grid_point (px v) (py v) = sym (is u i) ∙ q ∙ is v j in
+            absurd (L.different u v i j n (pos_same (x_same (grid_point (px u) (py u)) (grid_point (px v) (py v)) r)) (pos_same (y_same (grid_point (px u) (py u)) (grid_point (px v) (py v)) r)))
       ];
       order = λ u v i j. (
         (λ h.
-            let hx : pos (px u) ≤ℤ pos (px v) = subst (λ z. z.x ≤ℤ pos (px v)) (is u i) (subst (λ z. (point_of points u).x ≤ℤ z.x) (is v j) h.0) in
-            let hy : pos (py u) ≤ℤ pos (py v) = subst (λ z. z.y ≤ℤ pos (py v)) (is u i) (subst (λ z. (point_of points u).y ≤ℤ z.y) (is v j) h.1) in
+            let hx : pos (px u) ≤ℤ pos (px v) = subst (λ z. z.x ≤ℤ pos (px v)) (is u i) (subst (λ z. (vertex_point points u).x ≤ℤ z.x) (is v j) h.0) in
+            let hy : pos (py u) ≤ℤ pos (py v) = subst (λ z. z.y ≤ℤ pos (py v)) (is u i) (subst (λ z. (vertex_point points u).y ≤ℤ z.y) (is v j) h.1) in
             L.back u v i j (most_pos (px u) (px v) hx) (most_pos (py u) (py v) hy)),
         (λ h. (
-          subst (λ z. z.x ≤ℤ (point_of points v).x) (sym (is u i)) (subst (λ z. pos (px u) ≤ℤ z.x) (sym (is v j)) (pos_most (px u) (px v) (L.x_grows u v i j h.0))),
-          subst (λ z. z.y ≤ℤ (point_of points v).y) (sym (is u i)) (subst (λ z. pos (py u) ≤ℤ z.y) (sym (is v j)) (pos_most (py u) (py v) (L.y_grows u v i j h.1))),
+          subst (λ z. z.x ≤ℤ (vertex_point points v).x) (sym (is u i)) (subst (λ z. pos (px u) ≤ℤ z.x) (sym (is v j)) (pos_most (px u) (px v) (L.x_grows u v i j h.0))),
+          subst (λ z. z.y ≤ℤ (vertex_point points v).y) (sym (is u i)) (subst (λ z. pos (py u) ≤ℤ z.y) (sym (is v j)) (pos_most (py u) (py v) (L.y_grows u v i j h.1))),
         )),
       );
     }

@@ -14,7 +14,7 @@ use Rattle.st_picture.specs.Items.{line}
 use Rattle.st_reduce.specs.Marks.{dummy_numbers}
 use Rattle.st_reduce.specs.Reduced.{dummy_at}
 use Rattle.draw_dom.specs.Pictures.{through, dummied}
-use Rattle.draw_dom.specs.Points.{point_of}
+use Rattle.draw_dom.specs.Points.{vertex_point}
 use Rattle.draw_dom.specs.Shown.{AreDots}
 
 entry : (ds : List (Option VertexId)) (e : ℕ) (o : Option VertexId) → slice_get ds e ≡ Some o → get_or (map (option_map (λ (w : VertexId). w.0)) ds) e None ≡ option_map (λ (w : VertexId). w.0) o
@@ -36,10 +36,10 @@ module _ (g : SidesValue) (S : IsSides g) (N : Names) (ds : List (Option VertexI
   dummy = dummy_at (dummy_numbers ds)
 
   abbrev corner : Point
-  corner = point_of points g.sink
+  corner = vertex_point points g.sink
 
   abbrev place : ℕ → Point
-  place = point_of points
+  place = vertex_point points
 
   pub dot_in : (v : ℕ) → v < g.vertices → IsInside corner (place v)
   dot_in v l = (let m = D.vertices in D.inside v (omega arith))
@@ -55,12 +55,12 @@ module _ (g : SidesValue) (S : IsSides g) (N : Names) (ds : List (Option VertexI
 
 -- ---- the line of an edge from its points
 module _ (g : SidesValue) (ds : List (Option VertexId)) (points : List Point) where
-  pub dummied_some : (e t h w : ℕ) (low high mid : Point) (ps : List Point) → t ≡ edge_tail g e → h ≡ edge_head g e → dummy_at (dummy_numbers ds) e ≡ Some w → low ≡ point_of points t → high ≡ point_of points h → mid ≡ point_of points w → ps ≡ low ∷ mid ∷ high ∷ [] → ps ≡ dummied g (dummy_at (dummy_numbers ds)) (point_of points) e
+  pub dummied_some : (e t h w : ℕ) (low high mid : Point) (ps : List Point) → t ≡ edge_tail g e → h ≡ edge_head g e → dummy_at (dummy_numbers ds) e ≡ Some w → low ≡ vertex_point points t → high ≡ vertex_point points h → mid ≡ vertex_point points w → ps ≡ low ∷ mid ∷ high ∷ [] → ps ≡ dummied g (dummy_at (dummy_numbers ds)) (vertex_point points) e
   dummied_some e t h w low high mid ps p q d l k m r =
-      r ∙ ap (λ z. z ∷ mid ∷ high ∷ []) (l ∙ ap (point_of points) p) ∙ ap (λ z. point_of points (edge_tail g e) ∷ mid ∷ z ∷ []) (k ∙ ap (point_of points) q) ∙ ap (λ z. point_of points (edge_tail g e) ∷ z ∷ point_of points (edge_head g e) ∷ []) m
-      ∙ sym (ap (through (point_of points (edge_tail g e)) (point_of points (edge_head g e)) (point_of points)) d)
+      r ∙ ap (λ z. z ∷ mid ∷ high ∷ []) (l ∙ ap (vertex_point points) p) ∙ ap (λ z. vertex_point points (edge_tail g e) ∷ mid ∷ z ∷ []) (k ∙ ap (vertex_point points) q) ∙ ap (λ z. vertex_point points (edge_tail g e) ∷ z ∷ vertex_point points (edge_head g e) ∷ []) m
+      ∙ sym (ap (through (vertex_point points (edge_tail g e)) (vertex_point points (edge_head g e)) (vertex_point points)) d)
 
-  pub dummied_none : (e t h : ℕ) (low high : Point) (ps : List Point) → t ≡ edge_tail g e → h ≡ edge_head g e → dummy_at (dummy_numbers ds) e ≡ None → low ≡ point_of points t → high ≡ point_of points h → ps ≡ low ∷ high ∷ [] → ps ≡ dummied g (dummy_at (dummy_numbers ds)) (point_of points) e
+  pub dummied_none : (e t h : ℕ) (low high : Point) (ps : List Point) → t ≡ edge_tail g e → h ≡ edge_head g e → dummy_at (dummy_numbers ds) e ≡ None → low ≡ vertex_point points t → high ≡ vertex_point points h → ps ≡ low ∷ high ∷ [] → ps ≡ dummied g (dummy_at (dummy_numbers ds)) (vertex_point points) e
   dummied_none e t h low high ps p q d l k r =
-      r ∙ ap (λ z. z ∷ high ∷ []) (l ∙ ap (point_of points) p) ∙ ap (λ z. point_of points (edge_tail g e) ∷ z ∷ []) (k ∙ ap (point_of points) q)
-      ∙ sym (ap (through (point_of points (edge_tail g e)) (point_of points (edge_head g e)) (point_of points)) d)
+      r ∙ ap (λ z. z ∷ high ∷ []) (l ∙ ap (vertex_point points) p) ∙ ap (λ z. vertex_point points (edge_tail g e) ∷ z ∷ []) (k ∙ ap (vertex_point points) q)
+      ∙ sym (ap (through (vertex_point points (edge_tail g e)) (vertex_point points (edge_head g e)) (vertex_point points)) d)

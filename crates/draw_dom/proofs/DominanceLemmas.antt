@@ -8,19 +8,14 @@ use Rattle.st_ids.specs.Walks.{Walk, stay, step, Reaches}
 use Rattle.st_sides.specs.Sides.{SidesValue, edge_count, edge_tail, edge_head, face_left, face_right, outs, ins, primal, dual, IsSides}
 use Rattle.st_sides.specs.Objects.{vertex, edge, LeftOf, before, after, leftward, rightward}
 use Rattle.draw_dom.specs.Dominance.{HasNoTransitive, IsDominance, IsPartWay, HasOnLine, IsCommonEnd, DominanceLaw, CompactDominance}
-use Rattle.st_ids.proofs.ListLemmas.{not_in_nil, In-cases, in_append, Precedes-right, Precedes-left}
-use Rattle.st_ids.proofs.WalkLemmas.{walk_append, on_walk, no_loop, reach_refl, reach_trans, reach_arc}
-use Rattle.st_sides.proofs.FanLemmas.{order_out_beside, order_in_beside}
-use Rattle.st_sides.proofs.SweepLemmas.{dual_acyclic}
-use Rattle.st_sides.proofs.ExclusiveLemmas.{from_source, to_sink, across_out, not_left_right}
-use Rattle.st_sides.proofs.TotalLemmas.{compared}
+use Rattle.st_ids.proofs.Public.{not_in_nil, In-cases, in_append, Precedes-right, Precedes-left, walk_append, on_walk, no_loop, reach_refl, reach_trans, reach_arc}
+use Rattle.st_sides.proofs.Public.{order_out_beside, order_in_beside, dual_acyclic, from_source, to_sink, across_out, not_left_right, compared}
 use Rattle.st_order.specs.Numbers.{AreNumberings, HasNumbers}
 use Rattle.draw_dom.specs.Compact.{point_x, point_y}
 use Rattle.st_order.specs.Orders.{BeforeOrLeft, BeforeOrRight, IsX, IsY}
-use Rattle.st_picture.proofs.SpanLemmas.{across_in}
+use Rattle.st_picture.proofs.Public.{across_in}
 use Rattle.draw_dom.proofs.CompactLemmas.{compact_law}
-use Rattle.st_order.proofs.OrderLemmas.{reaching, reached, x_vertices, y_vertices}
-use Rattle.st_order.proofs.RankLemmas.{rank_grows}
+use Rattle.st_order.proofs.Public.{reaching, reached, x_vertices, y_vertices, rank_grows}
 
 -- ---- arithmetic
 smaller : (i j b c : ℕ) → 1 ≤ i → i ≤ j → b < c → i * b ≡ j * c → ⊥

@@ -8,9 +8,8 @@ use Rattle.st_ids.specs.Walks.{Walk, stay, step, Reaches}
 use Rattle.st_sides.specs.Sides.{SidesValue, edge_count, edge_tail, edge_head, outs, ins, primal, IsSides}
 use Rattle.draw_dom.specs.Compact.{point_x, point_y}
 use Rattle.draw_dom.specs.Dominance.{HasNoTransitive, IsDominance, HasOnLine, DominanceLaw}
-use Rattle.st_ids.proofs.ListLemmas.{not_in_nil}
-use Rattle.st_ids.proofs.WalkLemmas.{reach_refl, reach_trans, reach_arc}
-use Rattle.st_sides.proofs.ExclusiveLemmas.{to_sink}
+use Rattle.st_ids.proofs.Public.{not_in_nil, reach_refl, reach_trans, reach_arc}
+use Rattle.st_sides.proofs.Public.{to_sink}
 use Rattle.draw_dom.proofs.DominanceLemmas.{compact_dominance_law}
 use Rattle.st_ids.specs.declared.names.Names.{Names}
 use Rattle.st_shape.specs.declared.picture.Form.TheVariants.{Dominance}
@@ -22,16 +21,11 @@ use Rattle.st_shape.specs.Meeting.{Ratio, LiesOn, Share, Meet}
 use Rattle.st_shape.specs.Rules.{Drawing, FitsFrame}
 use Rattle.st_reduce.specs.ReducedSides.{IsReducedSides}
 use Rattle.st_picture.specs.Drawn.{IsDrawn, IsFitting}
-use Rattle.st_picture.specs.Items.{at, line}
+use Rattle.st_picture.specs.Items.{grid_point, line}
 use Rattle.st_picture.specs.Naming.{AreNames, edge_name, vertex_name}
-use Rattle.st_picture.specs.Order.{minus, cross, leaving, arriving, IsShown, IsLeftOut, IsLeftIn}
-use Rattle.st_picture.proofs.BarLemmas.{on_level}
-use Rattle.st_picture.proofs.NaturalLemmas.{segment, pos_same, pos_most, inside, Lies, lies, is_at, at_same}
-use Rattle.st_picture.proofs.NeatLemmas.{IsEndAt, EndsAt, JoinAt, IsNeat, neat_clean}
-use Rattle.st_picture.proofs.PlaceLemmas.{vertex_is, line_is, fits}
-use Rattle.st_picture.proofs.SegmentLemmas.{of_two, of_three}
-use Rattle.st_picture.proofs.SpanLemmas.{out_first, out_second, in_first, in_second, sink_in}
-use Rattle.draw_dom.specs.Pictures.{ShowsReaching, dot, through, dummied, points_and_lines, IsDominancePicture}
+use Rattle.st_picture.specs.Order.{point_minus, cross_of_directions, leaving, arriving, IsShown, IsLeftOut, IsLeftIn}
+use Rattle.st_picture.proofs.Public.{on_level, segment, pos_same, pos_most, inside, Lies, lies, is_at, at_same, IsEndAt, EndsAt, JoinAt, IsNeat, neat_clean, vertex_is, line_is, fits, of_two, of_three, out_first, out_second, in_first, in_second, sink_in}
+use Rattle.draw_dom.specs.Pictures.{ShowsReaching, point_dot, through, dummied, points_and_lines, IsDominancePicture}
 use Rattle.draw_dom.proofs.DirectionLemmas.{cross_below_by, cross_above_by}
 
 option_cases : (o : Option ℕ) → (o ≡ None) ⊎ ((w : ℕ) × (o ≡ Some w))
@@ -56,13 +50,13 @@ most_pos a b h = omega (arith, ints)
 
 module _ (g r : SidesValue) (S : IsSides g) (R : IsSides r) (dummy : ℕ → Option ℕ) (last : ℕ → ℕ) (Q : IsReducedSides g r dummy last) (px py : ℕ → ℕ) (D : IsDominance r px py) (L : DominanceLaw r px py) where
   abbrev points : ℕ → List Point
-  points = dummied g dummy (λ v. at (px v) (py v))
+  points = dummied g dummy (λ v. grid_point (px v) (py v))
 
   abbrev place : ℕ → Point
-  place v = at (px v) (py v)
+  place v = grid_point (px v) (py v)
 
   abbrev figure : ℕ → Segment
-  figure v = segment (at (px v) (py v)) (at (px v) (py v))
+  figure v = segment (grid_point (px v) (py v)) (grid_point (px v) (py v))
 
   within : (v : ℕ) → v < g.vertices → v < r.vertices
   within v i = let h = Q.vertices in omega arith
@@ -77,8 +71,8 @@ module _ (g r : SidesValue) (S : IsSides g) (R : IsSides r) (dummy : ℕ → Opt
 
   kind : (e : ℕ) → e < edge_count g → Kind e
   kind e a = elim (option_cases (dummy e)) [
-    | inl q ↦ plain q (Q.plain e a q) (ap (through (place (edge_tail g e)) (place (edge_head g e)) (λ w. at (px w) (py w))) q)
-    | inr h ↦ by h.0 h.1 (ap (through (place (edge_tail g e)) (place (edge_head g e)) (λ w. at (px w) (py w))) h.1)
+    | inl q ↦ plain q (Q.plain e a q) (ap (through (place (edge_tail g e)) (place (edge_head g e)) (λ w. grid_point (px w) (py w))) q)
+    | inr h ↦ by h.0 h.1 (ap (through (place (edge_tail g e)) (place (edge_head g e)) (λ w. grid_point (px w) (py w))) h.1)
   ]
 
   first_is : (e : ℕ) → e < edge_count g → slice_get (points e) 0 ≡ Some (place (edge_tail g e))
@@ -95,7 +89,7 @@ module _ (g r : SidesValue) (S : IsSides g) (R : IsSides r) (dummy : ℕ → Opt
 
   -- the segment of an edge of the reduced graph
   abbrev stretch : ℕ → Segment
-  stretch f = segment (at (px (edge_tail r f)) (py (edge_tail r f))) (at (px (edge_head r f)) (py (edge_head r f)))
+  stretch f = segment (grid_point (px (edge_tail r f)) (py (edge_tail r f))) (grid_point (px (edge_head r f)) (py (edge_head r f)))
 
   same_stretch : (a b c d : ℕ) → a ≡ c → b ≡ d → segment (place a) (place b) ≡ segment (place c) (place d)
   same_stretch a b c d e f = ap (λ z. segment (place z) (place b)) e ∙ ap (λ z. segment (place c) (place z)) f
@@ -250,16 +244,16 @@ module _ (g r : SidesValue) (S : IsSides g) (R : IsSides r) (dummy : ℕ → Opt
   neat = record { rises = rises; apart = apart; passes = passes; ends = ends; lines = lines }
 
   -- ---- the order at a dot
-  leaving_is : (e v : ℕ) → e < edge_count g → edge_tail g e ≡ v → leaving (points e) ≡ minus (place (edge_head r e)) (place v)
-  leaving_is e v a t = subst (λ z. leaving (points e) ≡ minus (place (edge_head r e)) (place z)) t (elim (kind e a) [
-    | plain n l q ↦ ap leaving q ∙ ap (λ z. minus (place z) (place (edge_tail g e))) (sym (Q.head_is e a) ∙ ap (edge_head r) l)
-    | by w n q ↦ ap leaving q ∙ ap (λ z. minus (place z) (place (edge_tail g e))) (sym (Q.into_dummy e w a n))
+  leaving_is : (e v : ℕ) → e < edge_count g → edge_tail g e ≡ v → leaving (points e) ≡ point_minus (place (edge_head r e)) (place v)
+  leaving_is e v a t = subst (λ z. leaving (points e) ≡ point_minus (place (edge_head r e)) (place z)) t (elim (kind e a) [
+    | plain n l q ↦ ap leaving q ∙ ap (λ z. point_minus (place z) (place (edge_tail g e))) (sym (Q.head_is e a) ∙ ap (edge_head r) l)
+    | by w n q ↦ ap leaving q ∙ ap (λ z. point_minus (place z) (place (edge_tail g e))) (sym (Q.into_dummy e w a n))
   ])
 
-  arriving_is : (e v : ℕ) → e < edge_count g → edge_head g e ≡ v → arriving (points e) ≡ minus (place v) (place (edge_tail r (last e)))
-  arriving_is e v a t = subst (λ z. arriving (points e) ≡ minus (place z) (place (edge_tail r (last e)))) t (elim (kind e a) [
-    | plain n l q ↦ ap arriving q ∙ ap (λ z. minus (place (edge_head g e)) (place z)) (sym (Q.tail_is e a) ∙ ap (edge_tail r) (sym l))
-    | by w n q ↦ ap arriving q ∙ ap (λ z. minus (place (edge_head g e)) (place z)) (sym (Q.out_of_dummy e w a n))
+  arriving_is : (e v : ℕ) → e < edge_count g → edge_head g e ≡ v → arriving (points e) ≡ point_minus (place v) (place (edge_tail r (last e)))
+  arriving_is e v a t = subst (λ z. arriving (points e) ≡ point_minus (place z) (place (edge_tail r (last e)))) t (elim (kind e a) [
+    | plain n l q ↦ ap arriving q ∙ ap (λ z. point_minus (place (edge_head g e)) (place z)) (sym (Q.tail_is e a) ∙ ap (edge_tail r) (sym l))
+    | by w n q ↦ ap arriving q ∙ ap (λ z. point_minus (place (edge_head g e)) (place z)) (sym (Q.out_of_dummy e w a n))
   ])
 
   -- an edge of the reduced graph out of v, or into it
@@ -320,13 +314,13 @@ module _ (g r : SidesValue) (S : IsSides g) (R : IsSides r) (dummy : ℕ → Opt
     picture = points_and_lines g N dummy place
 
     abbrev corner : Point
-    corner = at (px g.sink) (py g.sink)
+    corner = grid_point (px g.sink) (py g.sink)
 
-    dot_is : (v : ℕ) → v < g.vertices → slice_get picture.items v ≡ Some (dot N place v)
-    dot_is v i = vertex_is g N Dominance corner (dot N place) points place v i
+    dot_is : (v : ℕ) → v < g.vertices → slice_get picture.items v ≡ Some (point_dot N place v)
+    dot_is v i = vertex_is g N Dominance corner (point_dot N place) points place v i
 
     edge_is : (e : ℕ) → e < edge_count g → slice_get picture.items (g.vertices + e) ≡ Some (line g N points e)
-    edge_is e a = line_is g N Dominance corner (dot N place) points place e a
+    edge_is e a = line_is g N Dominance corner (point_dot N place) points place e a
 
     shows_out : (v e f : ℕ) → v < g.vertices → Precedes e f (outs g v) → IsShown IsLeftOut picture.items v (g.vertices + e) (g.vertices + f)
     shows_out v e f i P =
@@ -336,14 +330,14 @@ module _ (g r : SidesValue) (S : IsSides g) (R : IsSides r) (dummy : ℕ → Opt
         let ke = above v e (old_in e E.0) (Q.tail_is e E.0 ∙ E.1) in
         let kf = above v f (old_in f F.0) (Q.tail_is f F.0 ∙ F.1) in
         record {
-          figure = dot N place v;
+          figure = point_dot N place v;
           ps = points e;
           qs = points f;
           figure_is = dot_is v i;
           first = record { name = edge_name N e; tail = vertex_name N (edge_tail g e); head = vertex_name N (edge_head g e); is = edge_is e E.0 };
           second = record { name = edge_name N f; tail = vertex_name N (edge_tail g f); head = vertex_name N (edge_head g f); is = edge_is f F.0 };
-          is_left = subst (λ z. cross (leaving (points e)) z <ℤ pos 0) (sym (leaving_is f v F.0 F.1))
-              (subst (λ z. cross z (minus (place (edge_head r f)) (place v)) <ℤ pos 0) (sym (leaving_is e v E.0 E.1))
+          is_left = subst (λ z. cross_of_directions (leaving (points e)) z <ℤ pos 0) (sym (leaving_is f v F.0 F.1))
+              (subst (λ z. cross_of_directions z (point_minus (place (edge_head r f)) (place v)) <ℤ pos 0) (sym (leaving_is e v E.0 E.1))
               (cross_below_by (px v) (py v) (px (edge_head r e)) (py (edge_head r e)) (px v) (py v) (px (edge_head r f)) (py (edge_head r f)) ke.0 ke.1 kf.0 kf.1 o));
         }
 
@@ -355,14 +349,14 @@ module _ (g r : SidesValue) (S : IsSides g) (R : IsSides r) (dummy : ℕ → Opt
         let ke = under v (last e) (Q.last_in e E.0) (Q.head_is e E.0 ∙ E.1) in
         let kf = under v (last f) (Q.last_in f F.0) (Q.head_is f F.0 ∙ F.1) in
         record {
-          figure = dot N place v;
+          figure = point_dot N place v;
           ps = points e;
           qs = points f;
           figure_is = dot_is v i;
           first = record { name = edge_name N e; tail = vertex_name N (edge_tail g e); head = vertex_name N (edge_head g e); is = edge_is e E.0 };
           second = record { name = edge_name N f; tail = vertex_name N (edge_tail g f); head = vertex_name N (edge_head g f); is = edge_is f F.0 };
-          is_left = subst (λ z. pos 0 <ℤ cross (arriving (points e)) z) (sym (arriving_is f v F.0 F.1))
-              (subst (λ z. pos 0 <ℤ cross z (minus (place v) (place (edge_tail r (last f))))) (sym (arriving_is e v E.0 E.1))
+          is_left = subst (λ z. pos 0 <ℤ cross_of_directions (arriving (points e)) z) (sym (arriving_is f v F.0 F.1))
+              (subst (λ z. pos 0 <ℤ cross_of_directions z (point_minus (place v) (place (edge_tail r (last f))))) (sym (arriving_is e v E.0 E.1))
               (cross_above_by (px (edge_tail r (last e))) (py (edge_tail r (last e))) (px v) (py v) (px (edge_tail r (last f))) (py (edge_tail r (last f))) (px v) (py v) ke.0 ke.1 kf.0 kf.1 o));
         }
 
@@ -383,7 +377,7 @@ module _ (g r : SidesValue) (S : IsSides g) (R : IsSides r) (dummy : ℕ → Opt
         ]
 
     fitting : AreNames g N → IsFitting picture
-    fitting A = fits g N Dominance corner (dot N place) points place (λ v i. dot_inside v (within v i)) line_fits (λ v text i q. (dot_inside v (within v i), (A.texts v text i q).0, (A.texts v text i q).1, (A.texts v text i q).2))
+    fitting A = fits g N Dominance corner (point_dot N place) points place (λ v i. dot_inside v (within v i)) line_fits (λ v text i q. (dot_inside v (within v i), (A.texts v text i q).0, (A.texts v text i q).1, (A.texts v text i q).2))
 
     pub dots_reaching : ShowsReaching g picture
     dots_reaching = record {
@@ -397,7 +391,7 @@ module _ (g r : SidesValue) (S : IsSides g) (R : IsSides r) (dummy : ℕ → Opt
 
     pub dots_drawn : AreNames g N → IsDrawn g picture
     dots_drawn A = record {
-      right = neat_clean g S N A Dominance corner (dot N place) points place figure (λ v i. refl) neat;
+      right = neat_clean g S N A Dominance corner (point_dot N place) points place figure (λ v i. refl) neat;
       order = λ v i. record { out = λ e f P. shows_out v e f i P; into = λ e f P. shows_in v e f i P };
       fitting = fitting A;
     }

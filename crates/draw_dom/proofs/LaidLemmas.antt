@@ -10,7 +10,7 @@ use Rattle.st_ids.specs.declared.limits.TheConstants.{MOST_COORDINATE}
 use Rattle.st_ids.specs.declared.names.Names.{Names}
 use Rattle.st_ids.specs.Graph.{arcs_of}
 use Rattle.st_ids.specs.Walks.{Arcs, Reaches}
-use Rattle.st_ids.proofs.WalkLemmas.{reach_refl, reach_trans}
+use Rattle.st_ids.proofs.Public.{reach_refl, reach_trans}
 use Rattle.st_map.specs.Embedded.{Embedded, bare, edges}
 use Rattle.st_test.specs.Planar.{IsPlanarSt}
 use Rattle.st_shape.specs.declared.point.Point.{Point}
@@ -19,30 +19,27 @@ use Rattle.st_shape.specs.Rules.{Drawing, IsFrame}
 use Rattle.st_sides.specs.Sides.{SidesValue, edge_count, edge_tail, edge_head, primal, IsSides}
 use Rattle.st_sides.specs.Held.{HasSizes}
 use Rattle.st_sides.specs.SidesOf.{IsSidesOf}
-use Rattle.st_sides.proofs.ExclusiveLemmas.{to_sink}
-use Rattle.st_sides.proofs.MeaningLemmas.{meaning_law}
+use Rattle.st_sides.proofs.Public.{to_sink, meaning_law}
 use Rattle.st_order.specs.declared.table.Labels.{Labels}
 use Rattle.st_order.specs.Labels.{AreLabels}
 use Rattle.st_order.specs.Laws.{IsNumbering}
 use Rattle.st_order.specs.Numbers.{AreNumberings}
 use Rattle.st_order.specs.Orders.{IsX, IsY}
-use Rattle.st_order.proofs.OrderLemmas.{numberings_law}
+use Rattle.st_order.proofs.Public.{numberings_law}
 use Rattle.st_picture.specs.Drawn.{IsDrawn}
-use Rattle.st_picture.specs.Items.{at}
+use Rattle.st_picture.specs.Items.{grid_point}
 use Rattle.st_picture.specs.Naming.{AreNames}
-use Rattle.st_picture.proofs.NaturalLemmas.{inside, pos_most}
-use Rattle.st_picture.proofs.SpanLemmas.{sink_in}
+use Rattle.st_picture.proofs.Public.{inside, pos_most, sink_in}
 use Rattle.st_reduce.specs.Marks.{dummy_numbers}
 use Rattle.st_reduce.specs.Reduced.{IsReduced, IsTransitiveEdge, ReducedIs, Splits, begin, keep, cut, dummy_at}
 use Rattle.st_reduce.specs.ReducedSides.{IsReducedSides, last_of}
 use Rattle.st_reduce.specs.Transitive.{IsTransitive}
-use Rattle.st_reduce.proofs.MarkedLemmas.{length-dummy_numbers}
-use Rattle.st_reduce.proofs.ReducedSidesLemmas.{reduced_sides_law}
+use Rattle.st_reduce.proofs.Public.{length-dummy_numbers, reduced_sides_law}
 use Rattle.draw_dom.specs.Compact.{steps, point_x, point_y}
 use Rattle.draw_dom.specs.Dominance.{CompactDominance, HasNoTransitive}
 use Rattle.draw_dom.specs.Pictures.{IsAtMost, compact_point, points_and_lines}
-use Rattle.draw_dom.specs.Points.{number_of, IsNumberList, AreNumberLists, ArePoints, AreAtMost, AreCompactPoints, point_of}
-use Rattle.draw_dom.specs.Shown.{AreDots, IsDominanceOf, IsLaid}
+use Rattle.draw_dom.specs.Points.{vertex_number, IsNumberList, AreNumberLists, ArePoints, IsPointAtMost, AreCompactPoints, vertex_point}
+use Rattle.draw_dom.specs.Shown.{AreDots, IsDominanceOf, IsCompactLayout}
 use Rattle.draw_dom.proofs.AlongLemmas.{growth-le, most_pos, point_is}
 use Rattle.draw_dom.proofs.DominanceLemmas.{compact_dominance_law}
 use Rattle.draw_dom.proofs.DotLemmas.{dominance_drawn}
@@ -61,11 +58,11 @@ pub none_there : (h : Embedded) (s t outer : ℕ) (r : SidesValue) → IsSidesOf
 none_there h s t outer r of none e l T = none e (let q = edges_same h s t outer r of in omega arith) (subst (λ (D : Arcs). IsTransitive D e) (arcs_same h s t outer r of) T)
 
 -- ---- numbers
-number_list : (n : ℕ) (F : ℕ → ℕ → Type 0) → IsNumbering n F → (xs : List ℕ) → length xs ≡ n → ((v : ℕ) → v < n → F v (number_of xs v)) → IsNumberList xs
+number_list : (n : ℕ) (F : ℕ → ℕ → Type 0) → IsNumbering n F → (xs : List ℕ) → length xs ≡ n → ((v : ℕ) → v < n → F v (vertex_number xs v)) → IsNumberList xs
 number_list n F N xs size each = record {
-  below = λ v l. (let k : number_of xs v < n = N.below v (number_of xs v) (omega arith) (each v (omega arith)) in omega arith);
-  different = λ u v i j q. N.different u v (number_of xs u) (omega arith) (omega arith) (each u (omega arith)) (subst (F v) (sym q) (each v (omega arith)));
-  onto = λ k l. (let h = N.onto k (omega arith) in let m : h.0 < n = h.1 in (h.0, omega arith, N.one h.0 (number_of xs h.0) k (each h.0 m) h.2));
+  below = λ v l. (let k : vertex_number xs v < n = N.below v (vertex_number xs v) (omega arith) (each v (omega arith)) in omega arith);
+  different = λ u v i j q. N.different u v (vertex_number xs u) (omega arith) (omega arith) (each u (omega arith)) (subst (F v) (sym q) (each v (omega arith)));
+  onto = λ k l. (let h = N.onto k (omega arith) in let m : h.0 < n = h.1 in (h.0, omega arith, N.one h.0 (vertex_number xs h.0) k (each h.0 m) h.2));
 }
 
 pub number_lists : (g : SidesValue) → IsSides g → (l : Labels) → AreLabels g l → AreNumberLists l.x l.y
@@ -75,25 +72,25 @@ number_lists g S l A = record {
   y = number_list g.vertices (IsY g) (numberings_law g S).y_numbers l.y A.y.size A.y.each;
 }
 
-pub laid_of : (h : Embedded) (s t outer : ℕ) (g : SidesValue) → IsSidesOf h s t outer g → HasSizes g → (l : Labels) → AreLabels g l → (points : List Point) → AreCompactPoints l.x l.y points → IsLaid h s t outer points
+pub laid_of : (h : Embedded) (s t outer : ℕ) (g : SidesValue) → IsSidesOf h s t outer g → HasSizes g → (l : Labels) → AreLabels g l → (points : List Point) → AreCompactPoints l.x l.y points → IsCompactLayout h s t outer points
 laid_of h s t outer g of z l A points P = record {
   sides = g;
   are_sides = of;
   sizes = z;
-  x = number_of l.x;
-  y = number_of l.y;
+  x = vertex_number l.x;
+  y = vertex_number l.y;
   at_x = P.at_x;
   at_y = P.at_y;
   numbers = record {
-    numberings = subst (λ n. AreNumberings n (number_of l.x) (number_of l.y) P.at_x P.at_y) A.x.size P.numberings;
+    numberings = subst (λ n. AreNumberings n (vertex_number l.x) (vertex_number l.y) P.at_x P.at_y) A.x.size P.numberings;
     x = A.x.each;
     y = A.y.each;
   };
-  are = subst (λ n. ArePoints (point_x (number_of l.x) (number_of l.y) P.at_x) (point_y (number_of l.x) (number_of l.y) P.at_y) n points) A.x.size P.are;
+  are = subst (λ n. ArePoints (point_x (vertex_number l.x) (vertex_number l.y) P.at_x) (point_y (vertex_number l.x) (vertex_number l.y) P.at_y) n points) A.x.size P.are;
 }
 
-pub laid_at : (h : Embedded) (s t outer s' t' outer' : ℕ) (points : List Point) → (s ≡ s') × (t ≡ t') × (outer ≡ outer') → IsLaid h s t outer points → IsLaid h s' t' outer' points
-laid_at h s t outer s' t' outer' points q L = subst (λ z. IsLaid h s' t' z points) q.2 (subst (λ z. IsLaid h s' z outer points) q.1 (subst (λ z. IsLaid h z t outer points) q.0 L))
+pub laid_at : (h : Embedded) (s t outer s' t' outer' : ℕ) (points : List Point) → (s ≡ s') × (t ≡ t') × (outer ≡ outer') → IsCompactLayout h s t outer points → IsCompactLayout h s' t' outer' points
+laid_at h s t outer s' t' outer' points q L = subst (λ z. IsCompactLayout h s' t' z points) q.2 (subst (λ z. IsCompactLayout h s' z outer points) q.1 (subst (λ z. IsCompactLayout h z t outer points) q.0 L))
 
 pub room : (g : Embedded) (s t outer : ℕ) (x : SidesValue) → IsSidesOf g s t outer x → x.vertices + edge_count x ≤ MOST_COORDINATE → g.vertices + 2 * edges g < 2 ^ 30
 room g s t outer x of few = (let a : x.vertices ≡ g.vertices = of.vertices in let b : edge_count x ≡ edges g = edges_same g s t outer x of in omega arith)
@@ -109,7 +106,7 @@ steps-le a zero = omega arith
 steps-le a (suc k) = (let h = steps-le a k in let l = growth-le (a k) (a (suc k)) in omega arith)
 
 -- ---- the picture
-module _ (g : Embedded) (s t outer : ℕ) (st : IsPlanarSt g s t outer) (x : SidesValue) (of : IsSidesOf g s t outer x) (S : IsSides x) (ds : List (Option VertexId)) (h : Embedded) (red : IsReduced g (dummy_numbers ds) h) (law : ReducedIs g s t outer (dummy_numbers ds) h) (points : List Point) (L : IsLaid h s t outer points) where
+module _ (g : Embedded) (s t outer : ℕ) (st : IsPlanarSt g s t outer) (x : SidesValue) (of : IsSidesOf g s t outer x) (S : IsSides x) (ds : List (Option VertexId)) (h : Embedded) (red : IsReduced g (dummy_numbers ds) h) (law : ReducedIs g s t outer (dummy_numbers ds) h) (points : List Point) (L : IsCompactLayout h s t outer points) where
   abbrev r : SidesValue
   r = L.sides
 
@@ -134,7 +131,7 @@ module _ (g : Embedded) (s t outer : ℕ) (st : IsPlanarSt g s t outer) (x : Sid
   C : CompactDominance r px py
   C = compact_dominance_law r R L.x L.y L.at_x L.at_y L.numbers
 
-  is : (v : ℕ) → v < r.vertices → point_of points v ≡ at (px v) (py v)
+  is : (v : ℕ) → v < r.vertices → vertex_point points v ≡ grid_point (px v) (py v)
   is v i = point_is px py r.vertices points L.are v i
 
   sink_there : x.sink < r.vertices
@@ -163,13 +160,13 @@ module _ (g : Embedded) (s t outer : ℕ) (st : IsPlanarSt g s t outer) (x : Sid
         inside = λ v i.
             let j : v < r.vertices = omega arith in
             let k = most v j in
-            subst (λ p. IsInside p (point_of points v)) (sym (is x.sink sink_there)) (subst (IsInside (at (px x.sink) (py x.sink))) (sym (is v j)) (inside (px x.sink) (py x.sink) (px v) (py v) k.0 k.1));
+            subst (λ p. IsInside p (vertex_point points v)) (sym (is x.sink sink_there)) (subst (IsInside (grid_point (px x.sink) (py x.sink))) (sym (is v j)) (inside (px x.sink) (py x.sink) (px v) (py v) k.0 k.1));
         grid = subst IsFrame (sym (is x.sink sink_there)) (inside MOST_COORDINATE MOST_COORDINATE (px x.sink) (py x.sink) (omega arith) (omega arith));
       }
 
-  module _ (N : Names) (d : Drawing) (q : d ≡ points_and_lines x N dummy (point_of points)) where
+  module _ (N : Names) (d : Drawing) (q : d ≡ points_and_lines x N dummy (vertex_point points)) where
     picture : d ≡ points_and_lines x N dummy (compact_point L.x L.y L.at_x L.at_y)
-    picture = q ∙ one_dots x r S R dummy (last_of g (dummy_numbers ds)) Q N (point_of points) (compact_point L.x L.y L.at_x L.at_y) is
+    picture = q ∙ one_dots x r S R dummy (last_of g (dummy_numbers ds)) Q N (vertex_point points) (compact_point L.x L.y L.at_x L.at_y) is
 
     pub drawn : AreNames x N → IsDrawn x d
     drawn A = dominance_drawn x r S R dummy (last_of g (dummy_numbers ds)) Q none N A d (record { x = L.x; y = L.y; at_x = L.at_x; at_y = L.at_y; numbers = L.numbers; is = picture })
@@ -198,20 +195,20 @@ module _ (g : Embedded) (s t outer : ℕ) (st : IsPlanarSt g s t outer) (x : Sid
     }
 
   pub reaching_by : (ps : List Point) → length ps ≡ x.vertices → ((v : ℕ) → v < x.vertices → slice_get ps v ≡ slice_get points v)
-      → (u v : ℕ) → u < g.vertices → v < g.vertices → Reaches (arcs_of (bare g)) u v ↔ AreAtMost ps u v
+      → (u v : ℕ) → u < g.vertices → v < g.vertices → Reaches (arcs_of (bare g)) u v ↔ IsPointAtMost ps u v
   reaching_by ps size each u v i j =
       let a : x.vertices ≡ g.vertices = of.vertices in
       let m = Q.vertices in
       let iu : u < r.vertices = omega arith in
       let iv : v < r.vertices = omega arith in
       let own : ArePoints px py x.vertices ps = record { size = size; each = λ w k. each w k ∙ L.are.each w (omega arith) } in
-      let pu : point_of ps u ≡ at (px u) (py u) = point_is px py x.vertices ps own u (omega arith) in
-      let pv : point_of ps v ≡ at (px v) (py v) = point_is px py x.vertices ps own v (omega arith) in
+      let pu : vertex_point ps u ≡ grid_point (px u) (py u) = point_is px py x.vertices ps own u (omega arith) in
+      let pv : vertex_point ps v ≡ grid_point (px v) (py v) = point_is px py x.vertices ps own v (omega arith) in
       let same : primal r ≡ arcs_of (bare h) = arcs_same h s t outer r L.are_sides in (
         (λ w.
             let k = C.points.up u v iu iv (subst (λ (D : Arcs). Reaches D u v) (sym same) ((law.keeps.reaches u v i j).0 w)) in
-            subst (λ p. IsAtMost p (point_of ps v)) (sym pu) (subst (IsAtMost (at (px u) (py u))) (sym pv) (pos_most (px u) (px v) k.0, pos_most (py u) (py v) k.1))),
+            subst (λ p. IsAtMost p (vertex_point ps v)) (sym pu) (subst (IsAtMost (grid_point (px u) (py u))) (sym pv) (pos_most (px u) (px v) k.0, pos_most (py u) (py v) k.1))),
         (λ w.
-            let k : IsAtMost (at (px u) (py u)) (at (px v) (py v)) = subst (λ p. IsAtMost p (at (px v) (py v))) pu (subst (IsAtMost (point_of ps u)) pv w) in
+            let k : IsAtMost (grid_point (px u) (py u)) (grid_point (px v) (py v)) = subst (λ p. IsAtMost p (grid_point (px v) (py v))) pu (subst (IsAtMost (vertex_point ps u)) pv w) in
             (law.keeps.reaches u v i j).1 (subst (λ (D : Arcs). Reaches D u v) same (C.points.back u v iu iv (most_pos (px u) (px v) k.0) (most_pos (py u) (py v) k.1)))),
       )

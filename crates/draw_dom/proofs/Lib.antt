@@ -1,9 +1,10 @@
-pub mod AlongLemmas
-pub mod BuildLemmas
-pub mod CompactLemmas
-pub mod DirectionLemmas
-pub mod DominanceLemmas
-pub mod DotLemmas
-pub mod LaidLemmas
-pub mod PictureLemmas
-pub mod ReadLemmas
+mod AlongLemmas
+mod BuildLemmas
+mod CompactLemmas
+mod DirectionLemmas
+mod DominanceLemmas
+mod DotLemmas
+mod LaidLemmas
+mod PictureLemmas
+mod ReadLemmas
+pub mod Public

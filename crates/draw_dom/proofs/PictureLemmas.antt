@@ -9,16 +9,14 @@ use Rattle.st_shape.specs.declared.point.Point.{Point}
 use Rattle.st_shape.specs.Rules.{Drawing}
 use Rattle.st_sides.specs.Sides.{SidesValue, edge_tail, edge_head, IsSides}
 use Rattle.st_order.specs.Numbers.{HasNumbers}
-use Rattle.st_order.proofs.NumberLemmas.{numbers_law}
-use Rattle.st_order.proofs.OrderLemmas.{numberings_law}
+use Rattle.st_order.proofs.Public.{numbers_law, numberings_law}
 use Rattle.st_reduce.specs.ReducedSides.{IsReducedSides}
-use Rattle.st_picture.specs.Items.{at}
+use Rattle.st_picture.specs.Items.{grid_point}
 use Rattle.st_picture.specs.Naming.{vertex_name}
-use Rattle.st_picture.proofs.JoinLemmas.{drawing_same}
-use Rattle.st_picture.proofs.SpanLemmas.{sink_in}
+use Rattle.st_picture.proofs.Public.{drawing_same, sink_in}
 use Rattle.draw_dom.specs.Compact.{growth, steps, point_x, point_y}
-use Rattle.draw_dom.specs.Laws.{PicturesLaw}
-use Rattle.draw_dom.specs.Pictures.{compact_point, dot, through, dummied, points_and_lines, IsDominancePicture}
+use Rattle.draw_dom.specs.Laws.{DominancePicturesLaw}
+use Rattle.draw_dom.specs.Pictures.{compact_point, point_dot, through, dummied, points_and_lines, IsDominancePicture}
 use Rattle.draw_dom.proofs.DotLemmas.{dominance_drawn, dominance_reaching}
 
 pub steps_same : (a b : ℕ → ℕ) (n k : ℕ) → ((i : ℕ) → i < n → a i ≡ b i) → k < n → steps a k ≡ steps b k
@@ -29,8 +27,8 @@ steps_same a b n (suc k) e l =
 inverse_same : (n : ℕ) (X X' i i' : ℕ → ℕ) → ((v : ℕ) → v < n → X v ≡ X' v) → ((k : ℕ) → k < n → i k < n) → ((k : ℕ) → k < n → X (i k) ≡ k) → ((v : ℕ) → v < n → i' (X' v) ≡ v) → (k : ℕ) → k < n → i k ≡ i' k
 inverse_same n X X' i i' e into of back k l = sym (back (i k) (into k l)) ∙ ap i' (sym (e (i k) (into k l)) ∙ of k l)
 
-at_point : (a b a' b' : ℕ) → a ≡ a' → b ≡ b' → at a b ≡ at a' b'
-at_point a b a' b' e f = ap (λ z. at z b) e ∙ ap (λ z. at a' z) f
+at_point : (a b a' b' : ℕ) → a ≡ a' → b ≡ b' → grid_point a b ≡ grid_point a' b'
+at_point a b a' b' e f = ap (λ z. grid_point z b) e ∙ ap (λ z. grid_point a' z) f
 
 module _ (r : SidesValue) (R : IsSides r) (x y at_x at_y x' y' at_x' at_y' : ℕ → ℕ) (A : HasNumbers r x y at_x at_y) (B : HasNumbers r x' y' at_x' at_y') where
   xs : (v : ℕ) → v < r.vertices → x v ≡ x' v
@@ -45,7 +43,7 @@ module _ (r : SidesValue) (R : IsSides r) (x y at_x at_y x' y' at_x' at_y' : ℕ
   along_y : (i : ℕ) → i < r.vertices → x (at_y i) ≡ x' (at_y' i)
   along_y i l = xs (at_y i) (A.numberings.at_y_in i l) ∙ ap x' (inverse_same r.vertices y y' at_y at_y' ys A.numberings.at_y_in A.numberings.y_of_at B.numberings.at_y_of i l)
 
-  pub same_points : (v : ℕ) → v < r.vertices → at (point_x x y at_x v) (point_y x y at_y v) ≡ at (point_x x' y' at_x' v) (point_y x' y' at_y' v)
+  pub same_points : (v : ℕ) → v < r.vertices → grid_point (point_x x y at_x v) (point_y x y at_y v) ≡ grid_point (point_x x' y' at_x' v) (point_y x' y' at_y' v)
   same_points v i = at_point (point_x x y at_x v) (point_y x y at_y v) (point_x x' y' at_x' v) (point_y x' y' at_y' v)
       (steps_same (λ i. y (at_x i)) (λ i. y' (at_x' i)) r.vertices (x v) along_x (A.numberings.x_in v i) ∙ ap (steps (λ i. y' (at_x' i))) (xs v i))
       (steps_same (λ i. x (at_y i)) (λ i. x' (at_y' i)) r.vertices (y v) along_y (A.numberings.y_in v i) ∙ ap (steps (λ i. x' (at_y' i))) (ys v i))
@@ -60,7 +58,7 @@ module _ (g r : SidesValue) (S : IsSides g) (R : IsSides r) (dummy : ℕ → Opt
     old v i = (let h = Q.vertices in same v (omega arith))
 
     pub one_dots : points_and_lines g N dummy place ≡ points_and_lines g N dummy place'
-    one_dots = drawing_same g N Dominance (place g.sink) (place' g.sink) (dot N place) (dot N place') (dummied g dummy place) (dummied g dummy place') place place'
+    one_dots = drawing_same g N Dominance (place g.sink) (place' g.sink) (point_dot N place) (point_dot N place') (dummied g dummy place) (dummied g dummy place') place place'
         (old g.sink (sink_in g S))
         (λ v i. ap (λ z. Dot (vertex_name N v) z) (old v i))
         (λ e a. through_same place place' (place (edge_tail g e)) (place' (edge_tail g e)) (place (edge_head g e)) (place' (edge_head g e)) (dummy e) (old (edge_tail g e) (S.tail_in e a)) (old (edge_head g e) (S.head_in e a)) (λ w q. same w (Q.new_vertex e w a q).1))
@@ -78,7 +76,7 @@ module _ (g r : SidesValue) (S : IsSides g) (R : IsSides r) (dummy : ℕ → Opt
       let X = numbers_law r R in
       (points_and_lines g N dummy (compact_point X.x X.y X.at_x X.at_y), record { x = X.x; y = X.y; at_x = X.at_x; at_y = X.at_y; numbers = X.are; is = refl })
 
-pub pictures_law : PicturesLaw
+pub pictures_law : DominancePicturesLaw
 pictures_law g r S R dummy last Q T = record {
   some = some g r S R dummy last Q;
   one = one g r S R dummy last Q;

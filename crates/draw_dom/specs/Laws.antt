@@ -4,8 +4,8 @@
 --   CompactsLaw       compact points compare as the two numbers do, for every two numberings
 --   PointsLaw         the compact points of the two numbers of a planar st-graph show reaching, and their straight lines meet
 --                     only at ends where no edge is transitive
---   HasPictures       there is one dominance picture, it is drawn right and shows reaching
---   PicturesLaw       so it is for all reduced graphs
+--   HasPictures           there is one dominance picture, it is drawn right and shows reaching
+--   DominancePicturesLaw  so it is for all reduced graphs
 use Rattle.std.specs.Prelude.{ℕ, ◌≡◌, Option}
 use Rattle.st_ids.specs.declared.names.Names.{Names}
 use Rattle.st_shape.specs.Rules.{Drawing}
@@ -34,5 +34,5 @@ pub record HasPictures (g r : SidesValue) (dummy : ℕ → Option ℕ) : Type 0 
   pub reaching : (N : Names) (d : Drawing) → IsDominancePicture g r dummy N d → ShowsReaching g d
 
 -- for every graph and its reduced graph, which has no transitive edge
-abbrev pub PicturesLaw : Type 0
-PicturesLaw = (g r : SidesValue) → IsSides g → IsSides r → (dummy : ℕ → Option ℕ) (last : ℕ → ℕ) → IsReducedSides g r dummy last → HasNoTransitive r → HasPictures g r dummy
+abbrev pub DominancePicturesLaw : Type 0
+DominancePicturesLaw = (g r : SidesValue) → IsSides g → IsSides r → (dummy : ℕ → Option ℕ) (last : ℕ → ℕ) → IsReducedSides g r dummy last → HasNoTransitive r → HasPictures g r dummy

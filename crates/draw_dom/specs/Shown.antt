@@ -1,8 +1,8 @@
 -- What a dominance drawing of a graph is: its picture, and the points of its vertices.
---   AreDots g dummies points    the points of vertices and dummies lie between (0, 0) and the sink's, which lies on the grid
---   IsLaid h .. points          the points are the compact points of the two numbers of a planar st-graph
---   IsDominanceOf g .. d ps     d is the dominance picture of g, and ps are the points of its vertices in the reduced graph
---   AreDominancePoints g .. ps  whatever the names, ps are the points of a dominance picture of g
+--   AreDots g dummies points     the points of vertices and dummies lie between (0, 0) and the sink's, which lies on the grid
+--   IsCompactLayout h .. points  the points are the compact points of the two numbers of a planar st-graph
+--   IsDominanceOf g .. d ps      d is the dominance picture of g, and ps are the points of its vertices in the reduced graph
+--   AreDominancePoints g .. ps   whatever the names, ps are the points of a dominance picture of g
 -- Letters: g graph with its lists, s source, t sink, outer an end on the outer face, x sides of g, h its reduced graph, N names,
 -- d picture, v and w vertices, e edge.
 use Rattle.std.specs.Prelude.{ℕ, ◌≡◌, ◌<◌, ◌≤◌, List, length, Option, Some}
@@ -20,18 +20,18 @@ use Rattle.st_reduce.specs.Marks.{dummy_numbers}
 use Rattle.st_reduce.specs.Reduced.{IsReduced, dummy_at}
 use Rattle.draw_dom.specs.Compact.{point_x, point_y}
 use Rattle.draw_dom.specs.Pictures.{compact_point, points_and_lines}
-use Rattle.draw_dom.specs.Points.{ArePoints, point_of}
+use Rattle.draw_dom.specs.Points.{ArePoints, vertex_point}
 
 -- There is a point for each vertex and each dummy. They lie between (0, 0) and the point of the sink, and this on the grid.
 pub record AreDots (g : SidesValue) (dummies : List (Option VertexId)) (points : List Point) : Type 0 where
   pub vertices : g.vertices ≤ length points
   pub size : length dummies ≡ edge_count g
   pub dummies_in : (e w : ℕ) → e < edge_count g → dummy_at (dummy_numbers dummies) e ≡ Some w → w < length points
-  pub inside : (v : ℕ) → v < length points → IsInside (point_of points g.sink) (point_of points v)
-  pub grid : IsFrame (point_of points g.sink)
+  pub inside : (v : ℕ) → v < length points → IsInside (vertex_point points g.sink) (vertex_point points v)
+  pub grid : IsFrame (vertex_point points g.sink)
 
 -- The points are the compact points of the two numbers of the vertices of h.
-pub record IsLaid (h : Embedded) (s t outer : ℕ) (points : List Point) : Type 0 where
+pub record IsCompactLayout (h : Embedded) (s t outer : ℕ) (points : List Point) : Type 0 where
   pub sides : SidesValue
   pub are_sides : IsSidesOf h s t outer sides
   pub sizes : HasSizes sides

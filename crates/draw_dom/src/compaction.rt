@@ -4,7 +4,7 @@
 //! and not next, needs no new column: the other coordinate tells the two apart.
 ghost use Rattle.std.specs.Prelude.{◌≡◌, ℕ, ◌+◌, ◌^◌, ◌<◌, ◌≤◌, IfOk, length, slice_index, vec_len};
 ghost use Rattle.draw_dom.specs.Compact.{growth, steps};
-ghost use Rattle.draw_dom.specs.Points.{AreCompactPoints, AreNumberLists, ArePlaces, CompareAsBoth, IsNumberList, number_of};
+ghost use Rattle.draw_dom.specs.Points.{AreCompactPoints, AreNumberLists, AreCompactPlaces, CompareAsBoth, IsNumberList, vertex_number};
 
 use crate::table::Compact;
 use st_ids::{IdVec, NoMemory, VertexId};
@@ -55,7 +55,7 @@ fn places(alloc: Global, numbers: &[u32], others: &[u32]) -> Result<Vec<u32>, Al
     requires same { length numbers.now ≡ length others.now }
     requires numbering { IsNumberList numbers.now }
     requires few { length numbers.now < 2 ^ 32 }
-    ensures { IfOk result (λ places. ArePlaces numbers.now others.now places.items) }
+    ensures { IfOk result (λ places. AreCompactPlaces numbers.now others.now places.items) }
 {
     let along = others_along(alloc, numbers, others)?;
     let steps = growing_steps(alloc, &along)?;

@@ -1,7 +1,7 @@
 //! Dominance pictures, from a graph to its picture and points.
 ghost use Rattle.std.specs.Prelude.{◌≡◌, ℕ, ◌+◌, ◌<◌, ◌≤◌, ◌^◌, ◌↔◌, length, slice_get, IfOk};
-ghost use Rattle.draw_dom.specs.Points.{AreAtMost};
-ghost use Rattle.draw_dom.specs.Shown.{AreDominancePoints, IsDominanceOf, IsLaid};
+ghost use Rattle.draw_dom.specs.Points.{IsPointAtMost};
+ghost use Rattle.draw_dom.specs.Shown.{AreDominancePoints, IsDominanceOf, IsCompactLayout};
 ghost use Rattle.st_ids.specs.Graph.{arcs_of};
 ghost use Rattle.st_ids.specs.declared.limits.TheConstants.{MOST_COORDINATE};
 ghost use Rattle.st_ids.specs.Walks.{Reaches};
@@ -25,7 +25,7 @@ use std::alloc::Global;
 
 /// The compact point of each vertex of the graph, for its two numbers.
 fn laid(alloc: Global, graph: &StGraph) -> Result<table::Compact, NoMemory>
-    ensures { IfOk result (IsLaid graph.now.map.graph graph.now.source graph.now.sink graph.now.outer) }
+    ensures { IfOk result (IsCompactLayout graph.now.map.graph graph.now.source graph.now.sink graph.now.outer) }
 {
     let sides = Sides::of(alloc, graph)?;
     laws::local(&sides);
@@ -69,7 +69,7 @@ pub fn dominance_points(
 
     ensures points { IfOk result (AreDominancePoints graph.map.graph graph.source graph.sink graph.outer sides.now) }
     ensures size { IfOk result (λ points. length points ≡ graph.map.graph.vertices) }
-    ensures reaching { IfOk result (λ points. (u v : ℕ) → u < graph.map.graph.vertices → v < graph.map.graph.vertices → Reaches (arcs_of (bare graph.map.graph)) u v ↔ AreAtMost points u v) }
+    ensures reaching { IfOk result (λ points. (u v : ℕ) → u < graph.map.graph.vertices → v < graph.map.graph.vertices → Reaches (arcs_of (bare graph.map.graph)) u v ↔ IsPointAtMost points u v) }
 {
     planar_st(&graph);
     laws::local(sides);
@@ -103,7 +103,7 @@ pub fn dominance(
 
     ensures picture { IfOk result (λ d. IsDominanceOf graph.map.graph graph.source graph.sink graph.outer sides.now names.now d.picture d.points) }
     ensures drawn { IfOk result (λ d. IsDrawn sides.now d.picture) }
-    ensures reaching { IfOk result (λ d. (u v : ℕ) → u < graph.map.graph.vertices → v < graph.map.graph.vertices → Reaches (arcs_of (bare graph.map.graph)) u v ↔ AreAtMost d.points u v) }
+    ensures reaching { IfOk result (λ d. (u v : ℕ) → u < graph.map.graph.vertices → v < graph.map.graph.vertices → Reaches (arcs_of (bare graph.map.graph)) u v ↔ IsPointAtMost d.points u v) }
 {
     planar_st(&graph);
     laws::local(sides);

@@ -1,7 +1,7 @@
 //! The items of a dominance picture: dots, lines and labels.
 ghost use Rattle.std.specs.Prelude.{◌≡◌, ◌+◌, ◌<◌, ◌^◌, length, IfOk};
-ghost use Rattle.draw_dom.specs.Pictures.{dot, dummied, points_and_lines};
-ghost use Rattle.draw_dom.specs.Points.{point_of};
+ghost use Rattle.draw_dom.specs.Pictures.{point_dot, dummied, points_and_lines};
+ghost use Rattle.draw_dom.specs.Points.{vertex_point};
 ghost use Rattle.draw_dom.specs.Shown.{AreDots};
 ghost use Rattle.st_picture.specs.Items.{line};
 ghost use Rattle.st_picture.specs.Naming.{AreNames};
@@ -19,7 +19,7 @@ use std::alloc::Global;
 /// The point of a vertex or a dummy.
 fn place(points: &Compact, v: VertexId) -> Point
     requires { v.0 < length points.now }
-    ensures { result ≡ point_of points.now v.0 }
+    ensures { result ≡ vertex_point points.now v.0 }
 {
     points.point(v)
 }
@@ -34,7 +34,7 @@ fn dummied(
 ) -> Points
     requires there { e.0 < edge_count sides.now }
     requires dots { AreDots sides.now dummies.now points.now }
-    ensures { result ≡ dummied sides.now (dummy_at (dummy_numbers dummies.now)) (point_of points.now) e.0 }
+    ensures { result ≡ dummied sides.now (dummy_at (dummy_numbers dummies.now)) (vertex_point points.now) e.0 }
 {
     laws::local(sides);
     let (tail, head) = (sides.tail(e), sides.head(e));
@@ -53,7 +53,7 @@ fn dummied(
 fn dot_of(points: &Compact, names: &Names, v: VertexId) -> Item
     requires there { v.0 < length points.now }
     requires named { v.0 < length names.now.vertex }
-    ensures { result ≡ dot names.now (point_of points.now) v.0 }
+    ensures { result ≡ point_dot names.now (vertex_point points.now) v.0 }
 {
     dot(names, v, place(points, v))
 }
@@ -70,7 +70,7 @@ fn line_of(
     requires there { e.0 < edge_count sides.now }
     requires names { AreNames sides.now names.now }
     requires dots { AreDots sides.now dummies.now points.now }
-    ensures { result ≡ line sides.now names.now (dummied sides.now (dummy_at (dummy_numbers dummies.now)) (point_of points.now)) e.0 }
+    ensures { result ≡ line sides.now names.now (dummied sides.now (dummy_at (dummy_numbers dummies.now)) (vertex_point points.now)) e.0 }
 {
     line(sides, names, e, dummied(alloc, sides, points, dummies, e))
 }
@@ -86,7 +86,7 @@ pub(crate) fn points_and_lines(
     requires names { AreNames sides.now names.now }
     requires dots { AreDots sides.now dummies.now points.now }
     requires room { sides.now.vertices + edge_count sides.now + sides.now.vertices < 2 ^ 31 }
-    ensures { IfOk result (λ d. d ≡ points_and_lines sides.now names.now (dummy_at (dummy_numbers dummies.now)) (point_of points.now)) }
+    ensures { IfOk result (λ d. d ≡ points_and_lines sides.now names.now (dummy_at (dummy_numbers dummies.now)) (vertex_point points.now)) }
 {
     laws::local(sides);
     let frame = place(points, sides.high(FaceId(0)));

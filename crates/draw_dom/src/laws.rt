@@ -1,6 +1,6 @@
 //! Laws of compact points and of dominance pictures: empty functions, whose contracts are theorems about the definitions of
 //! specs/.
-ghost use Rattle.draw_dom.specs.Laws.{CompactsLaw, PicturesLaw, PointsLaw};
+ghost use Rattle.draw_dom.specs.Laws.{CompactsLaw, DominancePicturesLaw, PointsLaw};
 
 /// For every two numberings of vertices: different vertices have different compact points, and the point of one is at most
 /// that of another exactly where both its numbers are at most the other's.
@@ -17,5 +17,5 @@ pub fn points()
 /// A graph with the sides of its reduced graph has one dominance picture for given names; it is clean, shows the order at each
 /// vertex and fits its frame, and one vertex reaches another exactly where its dot is at most the other's.
 pub fn pictures()
-    ensures { PicturesLaw }
+    ensures { DominancePicturesLaw }
 {}

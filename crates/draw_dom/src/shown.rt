@@ -1,7 +1,7 @@
 //! A dominance drawing: a picture, and the points that decide reaching.
 ghost use Rattle.std.specs.Prelude.{◌≡◌, ◌<◌, ◌↔◌, IsTrue, length, slice_get, Some};
 ghost use Rattle.draw_dom.specs.Pictures.{IsAtMost};
-ghost use Rattle.draw_dom.specs.Points.{AreAtMost};
+ghost use Rattle.draw_dom.specs.Points.{IsPointAtMost};
 
 use st_ids::{IdVec, VertexId};
 use st_shape::{Picture, Point};
@@ -21,7 +21,7 @@ fn is_at_most(p: Point, q: Point) -> bool
 pub fn reaches_by(points: &IdVec<VertexId, Point>, u: VertexId, v: VertexId) -> bool
     requires first { u.0 < length points.now }
     requires second { v.0 < length points.now }
-    ensures { IsTrue result ↔ AreAtMost points.now u.0 v.0 }
+    ensures { IsTrue result ↔ IsPointAtMost points.now u.0 v.0 }
 {
     is_at_most(*points.get(u), *points.get(v))
 }
@@ -56,7 +56,7 @@ impl Dominance {
     pub fn reaches(&self, u: VertexId, v: VertexId) -> bool
         requires first { u.0 < length self.now.points }
         requires second { v.0 < length self.now.points }
-        ensures { IsTrue result ↔ AreAtMost self.now.points u.0 v.0 }
+        ensures { IsTrue result ↔ IsPointAtMost self.now.points u.0 v.0 }
     {
         reaches_by(&self.points, u, v)
     }

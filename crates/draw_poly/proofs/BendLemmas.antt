@@ -14,7 +14,7 @@ use Rattle.std.proofs.lemmas.Bool.{cases_eq, cases_lt, eq-eqb, ne_eqb}
 use Rattle.st_ids.specs.declared.names.Names.{Names}
 use Rattle.st_ids.specs.Lists.{Precedes}
 use Rattle.st_ids.specs.Walks.{Reaches}
-use Rattle.st_ids.proofs.WalkLemmas.{no_loop, reach_refl, reach_trans, reach_arc}
+use Rattle.st_ids.proofs.Public.{no_loop, reach_refl, reach_trans, reach_arc}
 use Rattle.st_shape.specs.declared.picture.Form.TheVariants.{Polyline}
 use Rattle.st_shape.specs.declared.point.Point.{Point}
 use Rattle.st_shape.specs.declared.point.Segment.{Segment}
@@ -24,20 +24,12 @@ use Rattle.st_shape.specs.Meeting.{Ratio, LiesOn, Share, Meet}
 use Rattle.st_shape.specs.Rules.{Drawing, FitsFrame}
 use Rattle.st_sides.specs.Objects.{Object, vertex, edge, IsObject, bottom, top, left, right, before, after, leftward, rightward}
 use Rattle.st_sides.specs.Sides.{SidesValue, edge_count, edge_tail, edge_head, face_left, face_right, left_of, right_of, outs, ins, primal, dual, IsSides}
-use Rattle.st_sides.proofs.FanLemmas.{order_out_beside, order_in_beside}
-use Rattle.st_sides.proofs.SweepLemmas.{dual_acyclic}
-use Rattle.st_sides.proofs.TotalLemmas.{compared, same_object}
+use Rattle.st_sides.proofs.Public.{order_out_beside, order_in_beside, dual_acyclic, compared, same_object}
 use Rattle.st_picture.specs.Drawn.{IsDrawn, IsFitting}
-use Rattle.st_picture.specs.Items.{at, line}
+use Rattle.st_picture.specs.Items.{grid_point, line}
 use Rattle.st_picture.specs.Naming.{AreNames, edge_name, vertex_name}
-use Rattle.st_picture.specs.Order.{minus, cross, leaving, arriving, IsShown, IsLeftOut, IsLeftIn}
-use Rattle.st_picture.proofs.BarLemmas.{on_level}
-use Rattle.st_picture.proofs.FigureLemmas.{reach_grows, reach_same}
-use Rattle.st_picture.proofs.NaturalLemmas.{segment, pos_same, pos_less, inside, Lies, lies, is_at, at_bounds, at_same}
-use Rattle.st_picture.proofs.NeatLemmas.{IsEndAt, EndsAt, JoinAt, IsNeat, neat_clean}
-use Rattle.st_picture.proofs.PlaceLemmas.{vertex_is, line_is, fits}
-use Rattle.st_picture.proofs.SegmentLemmas.{of_two, of_three, of_four}
-use Rattle.st_picture.proofs.SpanLemmas.{span_out, span_in, low_height, low_column, right_column, out_first, out_second, in_first, in_second}
+use Rattle.st_picture.specs.Order.{point_minus, cross_of_directions, leaving, arriving, IsShown, IsLeftOut, IsLeftIn}
+use Rattle.st_picture.proofs.Public.{on_level, reach_grows, reach_same, segment, pos_same, pos_less, inside, Lies, lies, is_at, at_bounds, at_same, IsEndAt, EndsAt, JoinAt, IsNeat, neat_clean, vertex_is, line_is, fits, of_two, of_three, of_four, span_out, span_in, low_height, low_column, right_column, out_first, out_second, in_first, in_second}
 use Rattle.draw_poly.specs.Polyline.{dot, dot_place, bent, polylines}
 use Rattle.draw_poly.specs.Tracks.{track, AreTracks, IsCommonVertex}
 use Rattle.draw_poly.proofs.DirectionLemmas.{one_row_out, one_row_in}
@@ -73,8 +65,8 @@ not_above q r j i i' l e = elim (cases_lt j r) [
 same_row : (q r j i i' : ℕ) → i < q → i' < q → q * r + i' ≡ q * j + i → r ≡ j
 same_row q r j i i' l m e = let a = not_above q r j i i' l e in let b = not_above q j r i' i m (sym e) in omega arith
 
-same_point : (x x' y y' : ℕ) → x ≡ x' → y ≡ y' → at x y ≡ at x' y'
-same_point x x' y y' e f = ap (λ z. at z y) e ∙ ap (λ z. at x' z) f
+same_point : (x x' y y' : ℕ) → x ≡ x' → y ≡ y' → grid_point x y ≡ grid_point x' y'
+same_point x x' y y' e f = ap (λ z. grid_point z y) e ∙ ap (λ z. grid_point x' z) f
 
 same_ends : (a a' b b' : Point) → a ≡ a' → b ≡ b' → segment a b ≡ segment a' b'
 same_ends a a' b b' e f = ap (λ z. segment z b) e ∙ ap (λ z. segment a' z) f
@@ -87,10 +79,10 @@ module _ (g : SidesValue) (S : IsSides g) (y c p : ℕ → ℕ) (D : AreTracks g
   T e j = track g y c p e j
 
   abbrev foot : ℕ → Point
-  foot e = at (p (edge_tail g e)) (y (edge_tail g e))
+  foot e = grid_point (p (edge_tail g e)) (y (edge_tail g e))
 
   abbrev peak : ℕ → Point
-  peak e = at (p (edge_head g e)) (y (edge_head g e))
+  peak e = grid_point (p (edge_head g e)) (y (edge_head g e))
 
   -- ---- rows
   track_tail : (e : ℕ) → T e (y (edge_tail g e)) ≡ p (edge_tail g e)
@@ -107,20 +99,20 @@ module _ (g : SidesValue) (S : IsSides g) (y c p : ℕ → ℕ) (D : AreTracks g
   track_mid : (e j : ℕ) → y (edge_tail g e) < j → j < y (edge_head g e) → T e j ≡ c (face_left g e)
   track_mid e j l h = off_tail e j (λ q. omega arith) ∙ ap (λ z. cond z (p (edge_head g e)) (c (face_left g e))) (ne_eqb j (y (edge_head g e)) (λ q. omega arith))
 
-  tail_point : (e : ℕ) → foot e ≡ at (T e (y (edge_tail g e))) (y (edge_tail g e))
-  tail_point e = ap (λ z. at z (y (edge_tail g e))) (sym (track_tail e))
+  tail_point : (e : ℕ) → foot e ≡ grid_point (T e (y (edge_tail g e))) (y (edge_tail g e))
+  tail_point e = ap (λ z. grid_point z (y (edge_tail g e))) (sym (track_tail e))
 
-  head_point : (e r : ℕ) → e < edge_count g → y (edge_head g e) ≡ r → peak e ≡ at (T e r) r
+  head_point : (e r : ℕ) → e < edge_count g → y (edge_head g e) ≡ r → peak e ≡ grid_point (T e r) r
   head_point e r a q = same_point (p (edge_head g e)) (T e r) (y (edge_head g e)) r (sym (track_head e a) ∙ ap (λ z. T e z) q) q
 
-  mid_point : (e r : ℕ) → y (edge_tail g e) < r → r < y (edge_head g e) → at (c (face_left g e)) r ≡ at (T e r) r
-  mid_point e r l h = ap (λ z. at z r) (sym (track_mid e r l h))
+  mid_point : (e r : ℕ) → y (edge_tail g e) < r → r < y (edge_head g e) → grid_point (c (face_left g e)) r ≡ grid_point (T e r) r
+  mid_point e r l h = ap (λ z. grid_point z r) (sym (track_mid e r l h))
 
   -- ---- the points of a line
   data Bends (e : ℕ) : Type 0 where
     none : y (edge_head g e) ≡ y (edge_tail g e) + 1 → points e ≡ foot e ∷ peak e ∷ [] → Bends e
-    one : y (edge_head g e) ≡ y (edge_tail g e) + 2 → points e ≡ foot e ∷ at (c (face_left g e)) (y (edge_tail g e) + 1) ∷ peak e ∷ [] → Bends e
-    two : y (edge_tail g e) + 3 ≤ y (edge_head g e) → points e ≡ foot e ∷ at (c (face_left g e)) (y (edge_tail g e) + 1) ∷ at (c (face_left g e)) (y (edge_head g e) - 1) ∷ peak e ∷ [] → Bends e
+    one : y (edge_head g e) ≡ y (edge_tail g e) + 2 → points e ≡ foot e ∷ grid_point (c (face_left g e)) (y (edge_tail g e) + 1) ∷ peak e ∷ [] → Bends e
+    two : y (edge_tail g e) + 3 ≤ y (edge_head g e) → points e ≡ foot e ∷ grid_point (c (face_left g e)) (y (edge_tail g e) + 1) ∷ grid_point (c (face_left g e)) (y (edge_head g e) - 1) ∷ peak e ∷ [] → Bends e
 
   bends : (e : ℕ) → e < edge_count g → Bends e
   bends e a =
@@ -139,10 +131,10 @@ module _ (g : SidesValue) (S : IsSides g) (y c p : ℕ → ℕ) (D : AreTracks g
       straight = foot e ∷ peak e ∷ []
 
       by_one : List Point
-      by_one = foot e ∷ at (c (face_left g e)) (y (edge_tail g e) + 1) ∷ peak e ∷ []
+      by_one = foot e ∷ grid_point (c (face_left g e)) (y (edge_tail g e) + 1) ∷ peak e ∷ []
 
       by_two : List Point
-      by_two = foot e ∷ at (c (face_left g e)) (y (edge_tail g e) + 1) ∷ at (c (face_left g e)) (y (edge_head g e) - 1) ∷ peak e ∷ []
+      by_two = foot e ∷ grid_point (c (face_left g e)) (y (edge_tail g e) + 1) ∷ grid_point (c (face_left g e)) (y (edge_head g e) - 1) ∷ peak e ∷ []
 
   first_is : (e : ℕ) → e < edge_count g → slice_get (points e) 0 ≡ Some (foot e)
   first_is e a = elim (bends e a) [
@@ -160,33 +152,33 @@ module _ (g : SidesValue) (S : IsSides g) (y c p : ℕ → ℕ) (D : AreTracks g
 
   -- a segment goes up one row, or along the column of the line
   data Part (e : ℕ) (s : Segment) : Type 0 where
-    slant : (r : ℕ) → y (edge_tail g e) ≤ r → r + 1 ≤ y (edge_head g e) → s ≡ segment (at (T e r) r) (at (T e (r + 1)) (r + 1)) → Part e s
-    upright : y (edge_tail g e) + 3 ≤ y (edge_head g e) → s ≡ segment (at (c (face_left g e)) (y (edge_tail g e) + 1)) (at (c (face_left g e)) (y (edge_head g e) - 1)) → Part e s
+    slant : (r : ℕ) → y (edge_tail g e) ≤ r → r + 1 ≤ y (edge_head g e) → s ≡ segment (grid_point (T e r) r) (grid_point (T e (r + 1)) (r + 1)) → Part e s
+    upright : y (edge_tail g e) + 3 ≤ y (edge_head g e) → s ≡ segment (grid_point (c (face_left g e)) (y (edge_tail g e) + 1)) (grid_point (c (face_left g e)) (y (edge_head g e) - 1)) → Part e s
 
   part : (e : ℕ) (s : Segment) → e < edge_count g → IsSegmentOf (points e) s → Part e s
   part e s a Q = elim (bends e a) [
     | none l q ↦
         slant (y (edge_tail g e)) (omega arith) (omega arith) (of_two (foot e) (peak e) s (subst (λ z. IsSegmentOf z s) q Q)
-        ∙ same_ends (foot e) (at (T e (y (edge_tail g e))) (y (edge_tail g e))) (peak e) (at (T e (y (edge_tail g e) + 1)) (y (edge_tail g e) + 1)) (tail_point e) (head_point e (y (edge_tail g e) + 1) a l))
-    | one l q ↦ elim (of_three (foot e) (at (c (face_left g e)) (y (edge_tail g e) + 1)) (peak e) s (subst (λ z. IsSegmentOf z s) q Q)) [
+        ∙ same_ends (foot e) (grid_point (T e (y (edge_tail g e))) (y (edge_tail g e))) (peak e) (grid_point (T e (y (edge_tail g e) + 1)) (y (edge_tail g e) + 1)) (tail_point e) (head_point e (y (edge_tail g e) + 1) a l))
+    | one l q ↦ elim (of_three (foot e) (grid_point (c (face_left g e)) (y (edge_tail g e) + 1)) (peak e) s (subst (λ z. IsSegmentOf z s) q Q)) [
       | inl h ↦ first h (omega arith)
       | inr h ↦
           let k : y (edge_tail g e) + 1 < y (edge_head g e) = omega arith in
-          slant (y (edge_tail g e) + 1) (omega arith) (omega arith) (h ∙ same_ends (at (c (face_left g e)) (y (edge_tail g e) + 1)) (at (T e (y (edge_tail g e) + 1)) (y (edge_tail g e) + 1)) (peak e) (at (T e (y (edge_tail g e) + 1 + 1)) (y (edge_tail g e) + 1 + 1)) (mid_point e (y (edge_tail g e) + 1) (omega arith) k) (head_point e (y (edge_tail g e) + 1 + 1) a (omega arith)))
+          slant (y (edge_tail g e) + 1) (omega arith) (omega arith) (h ∙ same_ends (grid_point (c (face_left g e)) (y (edge_tail g e) + 1)) (grid_point (T e (y (edge_tail g e) + 1)) (y (edge_tail g e) + 1)) (peak e) (grid_point (T e (y (edge_tail g e) + 1 + 1)) (y (edge_tail g e) + 1 + 1)) (mid_point e (y (edge_tail g e) + 1) (omega arith) k) (head_point e (y (edge_tail g e) + 1 + 1) a (omega arith)))
     ]
-    | two l q ↦ elim (of_four (foot e) (at (c (face_left g e)) (y (edge_tail g e) + 1)) (at (c (face_left g e)) (y (edge_head g e) - 1)) (peak e) s (subst (λ z. IsSegmentOf z s) q Q)) [
+    | two l q ↦ elim (of_four (foot e) (grid_point (c (face_left g e)) (y (edge_tail g e) + 1)) (grid_point (c (face_left g e)) (y (edge_head g e) - 1)) (peak e) s (subst (λ z. IsSegmentOf z s) q Q)) [
       | inl h ↦ first h (omega arith)
       | inr h ↦ elim h [
         | inl h ↦ upright l h
         | inr h ↦
             let r = y (edge_head g e) - 1 in
-            slant r (omega arith) (omega arith) (h ∙ same_ends (at (c (face_left g e)) r) (at (T e r) r) (peak e) (at (T e (r + 1)) (r + 1)) (mid_point e r (omega arith) (omega arith)) (head_point e (r + 1) a (omega arith)))
+            slant r (omega arith) (omega arith) (h ∙ same_ends (grid_point (c (face_left g e)) r) (grid_point (T e r) r) (peak e) (grid_point (T e (r + 1)) (r + 1)) (mid_point e r (omega arith) (omega arith)) (head_point e (r + 1) a (omega arith)))
       ]
     ]
   ]
     where
-      first : s ≡ segment (foot e) (at (c (face_left g e)) (y (edge_tail g e) + 1)) → y (edge_tail g e) + 1 < y (edge_head g e) → Part e s
-      first h k = slant (y (edge_tail g e)) (omega arith) (omega arith) (h ∙ same_ends (foot e) (at (T e (y (edge_tail g e))) (y (edge_tail g e))) (at (c (face_left g e)) (y (edge_tail g e) + 1)) (at (T e (y (edge_tail g e) + 1)) (y (edge_tail g e) + 1)) (tail_point e) (mid_point e (y (edge_tail g e) + 1) (omega arith) k))
+      first : s ≡ segment (foot e) (grid_point (c (face_left g e)) (y (edge_tail g e) + 1)) → y (edge_tail g e) + 1 < y (edge_head g e) → Part e s
+      first h k = slant (y (edge_tail g e)) (omega arith) (omega arith) (h ∙ same_ends (foot e) (grid_point (T e (y (edge_tail g e))) (y (edge_tail g e))) (grid_point (c (face_left g e)) (y (edge_tail g e) + 1)) (grid_point (T e (y (edge_tail g e) + 1)) (y (edge_tail g e) + 1)) (tail_point e) (mid_point e (y (edge_tail g e) + 1) (omega arith) k))
 
   -- ---- a point of a line, by its row
   record OnRow (e q x j i k : ℕ) : Type 0 where
@@ -394,7 +386,7 @@ module _ (g : SidesValue) (S : IsSides g) (y c p : ℕ → ℕ) (D : AreTracks g
 
   -- ---- neat
   abbrev figure : ℕ → Segment
-  figure v = segment (at (p v) (y v)) (at (p v) (y v))
+  figure v = segment (grid_point (p v) (y v)) (grid_point (p v) (y v))
 
   rises : (e : ℕ) (s : Segment) → e < edge_count g → IsSegmentOf (points e) s → RisesIn Polyline s
   rises e s a Q = elim (part e s a Q) [
@@ -443,9 +435,9 @@ module _ (g : SidesValue) (S : IsSides g) (y c p : ℕ → ℕ) (D : AreTracks g
       (subst (λ z. Meet (segment (peak e) (peak e)) (figure z)) t (on_level (p (edge_head g e)) (p (edge_head g e)) (p (edge_head g e)) (y (edge_head g e)) (omega arith) (omega arith)))
 
   -- a vertex at the end of a line
-  end_at : (e m : ℕ) → e < edge_count g → (m ≡ edge_tail g e) ⊎ (m ≡ edge_head g e) → IsEndAt g points e m (at (p m) (y m)) × (T e (y m) ≡ p m)
-  end_at e m a (inl q) = (inl (first_is e a ∙ ap (λ z. Some (at (p z) (y z))) (sym q), sym q), ap (λ z. T e (y z)) q ∙ track_tail e ∙ ap p (sym q))
-  end_at e m a (inr q) = (inr (last_is e a ∙ ap (λ z. Some (at (p z) (y z))) (sym q), sym q), ap (λ z. T e (y z)) q ∙ track_head e a ∙ ap p (sym q))
+  end_at : (e m : ℕ) → e < edge_count g → (m ≡ edge_tail g e) ⊎ (m ≡ edge_head g e) → IsEndAt g points e m (grid_point (p m) (y m)) × (T e (y m) ≡ p m)
+  end_at e m a (inl q) = (inl (first_is e a ∙ ap (λ z. Some (grid_point (p z) (y z))) (sym q), sym q), ap (λ z. T e (y z)) q ∙ track_tail e ∙ ap p (sym q))
+  end_at e m a (inr q) = (inr (last_is e a ∙ ap (λ z. Some (grid_point (p z) (y z))) (sym q), sym q), ap (λ z. T e (y z)) q ∙ track_head e a ∙ ap p (sym q))
 
   at_row : (e q x j m : ℕ) → x ≡ q * T e j → y m ≡ j → T e (y m) ≡ p m → x ≡ q * p m
   at_row e q x j m h k r = h ∙ ap (λ z. q * T e z) (sym k) ∙ ap (λ z. q * z) r
@@ -456,7 +448,7 @@ module _ (g : SidesValue) (S : IsSides g) (y c p : ℕ → ℕ) (D : AreTracks g
       let E = end_at e C.at a C.of_first in
       let F = end_at f C.at b C.of_second in
       let row : P.q * y C.at ≡ P.q * j = ap (λ z. P.q * z) C.row in
-      record { m = C.at; v = at (p C.at) (y C.at); first = E.0; second = F.0; is = is_at P x h (p C.at) (y C.at) X H (at_row e P.q x j C.at xs C.row E.1) (omega arith) }
+      record { m = C.at; v = grid_point (p C.at) (y C.at); first = E.0; second = F.0; is = is_at P x h (p C.at) (y C.at) X H (at_row e P.q x j C.at xs C.row E.1) (omega arith) }
 
   lines : (e f : ℕ) (s t : Segment) (P : Ratio) → e < edge_count g → f < edge_count g → e ≢ f → IsSegmentOf (points e) s → IsSegmentOf (points f) t → Share s t P → JoinAt g points e f P
   lines e f s t P a b n Q R H =
@@ -485,28 +477,28 @@ module _ (g : SidesValue) (S : IsSides g) (y c p : ℕ → ℕ) (D : AreTracks g
   neat = record { rises = rises; apart = apart; passes = passes; ends = ends; lines = lines }
 
   -- ---- the order at a dot
-  leaving_is : (e v : ℕ) → e < edge_count g → edge_tail g e ≡ v → leaving (points e) ≡ minus (at (T e (y v + 1)) (y v + 1)) (at (p v) (y v))
-  leaving_is e v a q = subst (λ z. leaving (points e) ≡ minus (at (T e (y z + 1)) (y z + 1)) (at (p z) (y z))) q (elim (bends e a) [
-    | none l r ↦ ap leaving r ∙ ap (λ z. minus z (foot e)) (head_point e (y (edge_tail g e) + 1) a l)
-    | one l r ↦ ap leaving r ∙ ap (λ z. minus z (foot e)) (mid_point e (y (edge_tail g e) + 1) (omega arith) (omega arith))
-    | two l r ↦ ap leaving r ∙ ap (λ z. minus z (foot e)) (mid_point e (y (edge_tail g e) + 1) (omega arith) (omega arith))
+  leaving_is : (e v : ℕ) → e < edge_count g → edge_tail g e ≡ v → leaving (points e) ≡ point_minus (grid_point (T e (y v + 1)) (y v + 1)) (grid_point (p v) (y v))
+  leaving_is e v a q = subst (λ z. leaving (points e) ≡ point_minus (grid_point (T e (y z + 1)) (y z + 1)) (grid_point (p z) (y z))) q (elim (bends e a) [
+    | none l r ↦ ap leaving r ∙ ap (λ z. point_minus z (foot e)) (head_point e (y (edge_tail g e) + 1) a l)
+    | one l r ↦ ap leaving r ∙ ap (λ z. point_minus z (foot e)) (mid_point e (y (edge_tail g e) + 1) (omega arith) (omega arith))
+    | two l r ↦ ap leaving r ∙ ap (λ z. point_minus z (foot e)) (mid_point e (y (edge_tail g e) + 1) (omega arith) (omega arith))
   ])
 
-  arriving_is : (e v r : ℕ) → e < edge_count g → edge_head g e ≡ v → y v ≡ r + 1 → arriving (points e) ≡ minus (at (p v) (r + 1)) (at (T e r) r)
+  arriving_is : (e v r : ℕ) → e < edge_count g → edge_head g e ≡ v → y v ≡ r + 1 → arriving (points e) ≡ point_minus (grid_point (p v) (r + 1)) (grid_point (T e r) r)
   arriving_is e v r a q l' =
       let l0 : y (edge_head g e) ≡ y v = ap y q in
       let l : y (edge_head g e) ≡ r + 1 = l0 ∙ l' in
-      let at_peak : peak e ≡ at (p v) (r + 1) = same_point (p (edge_head g e)) (p v) (y (edge_head g e)) (r + 1) (ap p q) l in
+      let at_peak : peak e ≡ grid_point (p v) (r + 1) = same_point (p (edge_head g e)) (p v) (y (edge_head g e)) (r + 1) (ap p q) l in
       elim (bends e a) [
         | none l1 s ↦
             let t : y (edge_tail g e) ≡ r = omega arith in
-            ap arriving s ∙ ap (λ z. minus z (foot e)) at_peak ∙ ap (λ z. minus (at (p v) (r + 1)) z) (tail_point e ∙ ap (λ z. at (T e z) z) t)
+            ap arriving s ∙ ap (λ z. point_minus z (foot e)) at_peak ∙ ap (λ z. point_minus (grid_point (p v) (r + 1)) z) (tail_point e ∙ ap (λ z. grid_point (T e z) z) t)
         | one l1 s ↦
             let t : y (edge_tail g e) + 1 ≡ r = omega arith in
-            ap arriving s ∙ ap (λ z. minus z (at (c (face_left g e)) (y (edge_tail g e) + 1))) at_peak ∙ ap (λ z. minus (at (p v) (r + 1)) z) (mid_point e (y (edge_tail g e) + 1) (omega arith) (omega arith) ∙ ap (λ z. at (T e z) z) t)
+            ap arriving s ∙ ap (λ z. point_minus z (grid_point (c (face_left g e)) (y (edge_tail g e) + 1))) at_peak ∙ ap (λ z. point_minus (grid_point (p v) (r + 1)) z) (mid_point e (y (edge_tail g e) + 1) (omega arith) (omega arith) ∙ ap (λ z. grid_point (T e z) z) t)
         | two l1 s ↦
             let t : y (edge_head g e) - 1 ≡ r = omega arith in
-            ap arriving s ∙ ap (λ z. minus z (at (c (face_left g e)) (y (edge_head g e) - 1))) at_peak ∙ ap (λ z. minus (at (p v) (r + 1)) z) (mid_point e (y (edge_head g e) - 1) (omega arith) (omega arith) ∙ ap (λ z. at (T e z) z) t)
+            ap arriving s ∙ ap (λ z. point_minus z (grid_point (c (face_left g e)) (y (edge_head g e) - 1))) at_peak ∙ ap (λ z. point_minus (grid_point (p v) (r + 1)) z) (mid_point e (y (edge_head g e) - 1) (omega arith) (omega arith) ∙ ap (λ z. grid_point (T e z) z) t)
       ]
 
   different : (e f : ℕ) → e < edge_count g → Reaches (dual g) (face_right g e) (face_left g f) → e ≢ f
@@ -547,7 +539,7 @@ module _ (g : SidesValue) (S : IsSides g) (y c p : ℕ → ℕ) (D : AreTracks g
     picture = polylines g N y c p
 
     abbrev corner : Point
-    corner = at (c g.t_star - 1) (y g.sink)
+    corner = grid_point (c g.t_star - 1) (y g.sink)
 
     abbrev place : ℕ → Point
     place = dot_place p y
@@ -569,8 +561,8 @@ module _ (g : SidesValue) (S : IsSides g) (y c p : ℕ → ℕ) (D : AreTracks g
           figure_is = dot_is v i;
           first = record { name = edge_name N e; tail = vertex_name N (edge_tail g e); head = vertex_name N (edge_head g e); is = bent_is e E.0 };
           second = record { name = edge_name N f; tail = vertex_name N (edge_tail g f); head = vertex_name N (edge_head g f); is = bent_is f F.0 };
-          is_left = subst (λ z. cross (leaving (points e)) z <ℤ pos 0) (sym (leaving_is f v F.0 F.1))
-              (subst (λ z. cross z (minus (at (T f (y v + 1)) (y v + 1)) (at (p v) (y v))) <ℤ pos 0) (sym (leaving_is e v E.0 E.1))
+          is_left = subst (λ z. cross_of_directions (leaving (points e)) z <ℤ pos 0) (sym (leaving_is f v F.0 F.1))
+              (subst (λ z. cross_of_directions z (point_minus (grid_point (T f (y v + 1)) (y v + 1)) (grid_point (p v) (y v))) <ℤ pos 0) (sym (leaving_is e v E.0 E.1))
               (one_row_out (T e (y v + 1)) (T f (y v + 1)) (p v) (y v) (out_order v e f i P)));
         }
 
@@ -589,8 +581,8 @@ module _ (g : SidesValue) (S : IsSides g) (y c p : ℕ → ℕ) (D : AreTracks g
           figure_is = dot_is v i;
           first = record { name = edge_name N e; tail = vertex_name N (edge_tail g e); head = vertex_name N (edge_head g e); is = bent_is e E.0 };
           second = record { name = edge_name N f; tail = vertex_name N (edge_tail g f); head = vertex_name N (edge_head g f); is = bent_is f F.0 };
-          is_left = subst (λ z. pos 0 <ℤ cross (arriving (points e)) z) (sym (arriving_is f v r F.0 F.1 l))
-              (subst (λ z. pos 0 <ℤ cross z (minus (at (p v) (r + 1)) (at (T f r) r))) (sym (arriving_is e v r E.0 E.1 l))
+          is_left = subst (λ z. pos 0 <ℤ cross_of_directions (arriving (points e)) z) (sym (arriving_is f v r F.0 F.1 l))
+              (subst (λ z. pos 0 <ℤ cross_of_directions z (point_minus (grid_point (p v) (r + 1)) (grid_point (T f r) r))) (sym (arriving_is e v r E.0 E.1 l))
               (one_row_in (T e r) (T f r) (p v) r (in_order v e f r i P l)));
         }
 
@@ -600,7 +592,7 @@ module _ (g : SidesValue) (S : IsSides g) (y c p : ℕ → ℕ) (D : AreTracks g
         let r : c (right_of g v) ≤ c g.t_star = right_column g S c D.rightward v i in
         inside (c g.t_star - 1) (y g.sink) (p v) (y v) (omega arith) (low_height g S y D.up v i)
 
-    bend_inside : (e r : ℕ) → e < edge_count g → r ≤ y (edge_head g e) → IsInside corner (at (c (face_left g e)) r)
+    bend_inside : (e r : ℕ) → e < edge_count g → r ≤ y (edge_head g e) → IsInside corner (grid_point (c (face_left g e)) r)
     bend_inside e r a l =
         let m : c (face_left g e) < c (face_right g e) = D.rightward e a in
         let t : c (face_right g e) ≤ c g.t_star = low_column g S c D.rightward (face_right g e) (S.right_within e a) in

@@ -17,15 +17,14 @@ use Rattle.st_sides.specs.SidesOf.{IsSidesOf}
 use Rattle.st_number.specs.Greatest.{IsHeight}
 use Rattle.st_number.specs.Heights.{AreHeights, AreColumns}
 use Rattle.st_number.specs.Numbers.{AreNumbers}
-use Rattle.st_number.proofs.BoundLemmas.{bounds_law, to_sides}
+use Rattle.st_number.proofs.Public.{bounds_law, to_sides}
 use Rattle.st_picture.specs.Bars.{number_at}
 use Rattle.st_picture.specs.Drawn.{IsDrawn}
 use Rattle.st_picture.specs.Naming.{AreNames}
-use Rattle.st_picture.proofs.SpanLemmas.{sink_in}
-use Rattle.st_picture.proofs.TableLemmas.{Has, number_of, naturals}
+use Rattle.st_picture.proofs.Public.{sink_in, Has, number_of, naturals}
 use Rattle.draw_poly.specs.Numbers.{AreLong, IsLongOnParallels}
 use Rattle.draw_poly.specs.Polyline.{polylines, IsPolylineBy}
-use Rattle.draw_poly.specs.Tables.{ArePlaces, AreTables, AreTablesBy}
+use Rattle.draw_poly.specs.Tables.{ArePlaces, ArePolylineTables, ArePolylineTablesBy}
 use Rattle.draw_poly.proofs.NumberLemmas.{tracks, polyline_drawn}
 use Rattle.draw_poly.proofs.TableLemmas.{columns_are, has_columns, places_have, places_natural}
 
@@ -67,7 +66,7 @@ module _ (E : Embedded) (s t outer : ℕ) (g : SidesValue) (Q : IsSidesOf E s t 
     }
 
     module _ (place : ℤ → ℤ → ℤ → Type 0) (ps : List ℤ) (P : ArePlaces place g (number_at cs) g.vertices ps) where
-      pub by_tables : AreTablesBy answer place g hs cs ps
+      pub by_tables : ArePolylineTablesBy answer place g hs cs ps
       by_tables = record {
         weight = H.weight;
         taken = λ e a. H.taken e (there e a);
@@ -76,7 +75,7 @@ module _ (E : Embedded) (s t outer : ℕ) (g : SidesValue) (Q : IsSidesOf E s t 
         placed = P;
       }
 
-      pub tables_are : g.vertices * most ≤ MOST_COORDINATE → edge_count g ≤ MOST_COORDINATE → AreTables g hs cs ps
+      pub tables_are : g.vertices * most ≤ MOST_COORDINATE → edge_count g ≤ MOST_COORDINATE → ArePolylineTables g hs cs ps
       tables_are high wide =
           let top : number_at hs g.sink ≤ (g.vertices - 1) * most = (bounds_law g S).heights H.weight most (λ e a. H.to_most e (there e a)) g.sink (number_at hs g.sink) (numbers.height g.sink (sink_in g S)) in
           let less : (g.vertices - 1) * most ≤ g.vertices * most = mul-le (g.vertices - 1) most g.vertices most (omega arith) (omega arith) in
@@ -92,7 +91,7 @@ module _ (E : Embedded) (s t outer : ℕ) (g : SidesValue) (Q : IsSidesOf E s t 
             wide = omega arith;
           }
 
-pub polyline_by : (answer : EdgeId → ℕ → Type 0) (place : ℤ → ℤ → ℤ → Type 0) (g : SidesValue) (hs cs ps : List ℤ) → AreTablesBy answer place g hs cs ps → (N : Names) (d : Drawing) → d ≡ polylines g N (number_at hs) (number_at cs) (number_at ps) → IsPolylineBy answer place g N d
+pub polyline_by : (answer : EdgeId → ℕ → Type 0) (place : ℤ → ℤ → ℤ → Type 0) (g : SidesValue) (hs cs ps : List ℤ) → ArePolylineTablesBy answer place g hs cs ps → (N : Names) (d : Drawing) → d ≡ polylines g N (number_at hs) (number_at cs) (number_at ps) → IsPolylineBy answer place g N d
 polyline_by answer place g hs cs ps T N d q = record {
   weight = T.weight;
   taken = T.taken;

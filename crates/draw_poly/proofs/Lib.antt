@@ -1,9 +1,10 @@
-pub mod BendLemmas
-pub mod BuildLemmas
-pub mod DirectionLemmas
-pub mod ItemLemmas
-pub mod LaidLemmas
-pub mod NumberLemmas
-pub mod SameLemmas
-pub mod TableLemmas
-pub mod TrackLemmas
+mod BendLemmas
+mod BuildLemmas
+mod DirectionLemmas
+mod ItemLemmas
+mod LaidLemmas
+mod NumberLemmas
+mod SameLemmas
+mod TableLemmas
+mod TrackLemmas
+pub mod Public

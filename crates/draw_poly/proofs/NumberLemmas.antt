@@ -7,12 +7,11 @@ use Rattle.st_shape.specs.Rules.{Drawing}
 use Rattle.st_sides.specs.Objects.{vertex}
 use Rattle.st_sides.specs.Sides.{SidesValue, edge_tail, edge_head, left_of, right_of, IsSides}
 use Rattle.st_number.specs.Numbers.{AreNumbers}
-use Rattle.st_number.proofs.GreatestLemmas.{heights_law}
-use Rattle.st_number.proofs.NumberLemmas.{numbers_law}
+use Rattle.st_number.proofs.Public.{heights_law, numbers_law}
 use Rattle.st_picture.specs.Drawn.{IsDrawn}
 use Rattle.st_picture.specs.Growing.{GrowsRight}
 use Rattle.st_picture.specs.Naming.{AreNames}
-use Rattle.st_picture.proofs.SpanLemmas.{wide}
+use Rattle.st_picture.proofs.Public.{wide}
 use Rattle.draw_poly.specs.Numbers.{AreLong}
 use Rattle.draw_poly.specs.Polyline.{IsPolylines}
 use Rattle.draw_poly.specs.Tracks.{AreTracks}

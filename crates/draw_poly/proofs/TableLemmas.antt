@@ -14,14 +14,13 @@ use Rattle.std.proofs.lemmas.Option.{get_or_from_slice_get}
 use Rattle.st_ids.specs.declared.limits.TheConstants.{MOST_COORDINATE}
 use Rattle.st_sides.specs.Objects.{vertex}
 use Rattle.st_sides.specs.Sides.{SidesValue, edge_count, left_of, right_of, IsSides}
-use Rattle.st_sides.proofs.ExclusiveLemmas.{left_below}
+use Rattle.st_sides.proofs.Public.{left_below}
 use Rattle.st_number.specs.Greatest.{IsColumn}
 use Rattle.st_number.specs.Heights.{AreColumns}
-use Rattle.st_number.proofs.NumberLemmas.{numbers_law}
+use Rattle.st_number.proofs.Public.{numbers_law}
 use Rattle.st_picture.specs.Bars.{number_at, HasNaturals}
 use Rattle.st_picture.specs.Growing.{GrowsRight}
-use Rattle.st_picture.proofs.SpanLemmas.{right_in, wide}
-use Rattle.st_picture.proofs.TableLemmas.{Has, number_of}
+use Rattle.st_picture.proofs.Public.{right_in, wide, Has, number_of}
 use Rattle.draw_poly.specs.Placing.{AreEnds}
 use Rattle.draw_poly.specs.Tables.{IsPlace, ArePlaces}
 

@@ -7,14 +7,11 @@ use Rattle.std.proofs.Common.{ℕ, cond, eqb, ◌≡◌, ◌≢◌, ◌<◌, ◌
 use Rattle.std.proofs.lemmas.Bool.{cases_eq, eq-eqb, ne_eqb}
 use Rattle.std.proofs.lemmas.Nat.{mul-le}
 use Rattle.st_ids.specs.Walks.{Reaches}
-use Rattle.st_ids.proofs.WalkLemmas.{no_loop, reach_refl, reach_trans, reach_arc}
+use Rattle.st_ids.proofs.Public.{no_loop, reach_refl, reach_trans, reach_arc}
 use Rattle.st_sides.specs.Sides.{SidesValue, edge_count, edge_tail, edge_head, face_left, face_right, left_of, right_of, primal, dual, IsSides}
 use Rattle.st_sides.specs.Objects.{Object, vertex, edge, IsObject, bottom, top, left, right, LeftOf, before, after, leftward, rightward}
-use Rattle.st_sides.proofs.SweepLemmas.{dual_acyclic}
-use Rattle.st_sides.proofs.ExclusiveLemmas.{from_source, to_sink, across_out, bottom_in, top_in, not_before_left, not_before_right}
-use Rattle.st_sides.proofs.TotalLemmas.{compared, same_object}
-use Rattle.st_picture.proofs.FigureLemmas.{reach_grows, reach_same}
-use Rattle.st_picture.proofs.SpanLemmas.{across_in}
+use Rattle.st_sides.proofs.Public.{dual_acyclic, from_source, to_sink, across_out, bottom_in, top_in, not_before_left, not_before_right, compared, same_object}
+use Rattle.st_picture.proofs.Public.{reach_grows, reach_same, across_in}
 use Rattle.draw_poly.specs.Tracks.{track, AreTracks, IsCommonVertex, TracksLaw}
 
 module _ (g : SidesValue) (S : IsSides g) (y c p : ℕ → ℕ) (D : AreTracks g y c p) where

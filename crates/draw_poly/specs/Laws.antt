@@ -3,7 +3,7 @@
 --   PolylineLaw g          each polyline picture is drawn right
 --   IsBetween f            a placement answers a column from one end to the other
 --   HasPicture g w N f     some picture has its vertices where f places them
---   PicturesLaw g          there is a picture for all weights, placements and names, and one for given places
+--   PolylinePicturesLaw g  there is a picture for all weights, placements and names, and one for given places
 use Rattle.std.specs.Prelude.{ℕ, ◌≡◌, ◌<◌, ◌≤◌, ◌-◌}
 use Rattle.st_ids.specs.declared.names.Names.{Names}
 use Rattle.st_shape.specs.Rules.{Drawing}
@@ -30,6 +30,6 @@ pub record HasPicture (g : SidesValue) (w : ℕ → ℕ) (N : Names) (f : ℕ �
   pub placed : (v : ℕ) → v < g.vertices → p v ≡ f (is.c (left_of g v)) (is.c (right_of g v) - 1)
 
 -- For all weights, names and placements there is a picture, and two with the same places are the same.
-pub record PicturesLaw (g : SidesValue) : Type 0 where
+pub record PolylinePicturesLaw (g : SidesValue) : Type 0 where
   pub some : (w : ℕ → ℕ) (N : Names) (f : ℕ → ℕ → ℕ) → IsBetween f → HasPicture g w N f
   pub one : (w p : ℕ → ℕ) (N : Names) (d d' : Drawing) → IsPolylines g w p N d → IsPolylines g w p N d' → d ≡ d'

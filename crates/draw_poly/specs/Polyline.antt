@@ -21,13 +21,13 @@ use Rattle.st_shape.specs.declared.point.Point.{Point}
 use Rattle.st_shape.specs.Rules.{Drawing}
 use Rattle.st_sides.specs.Sides.{SidesValue, edge_count, edge_tail, edge_head, face_left, left_of, right_of}
 use Rattle.st_number.specs.Numbers.{AreNumbers}
-use Rattle.st_picture.specs.Items.{at, drawing}
+use Rattle.st_picture.specs.Items.{grid_point, drawing}
 use Rattle.st_picture.specs.Naming.{vertex_name}
 use Rattle.draw_poly.specs.Numbers.{AreLong}
 
 -- where the vertex v stands
 abbrev pub dot_place : (ℕ → ℕ) → (ℕ → ℕ) → ℕ → Point
-dot_place p y v = at (p v) (y v)
+dot_place p y v = grid_point (p v) (y v)
 
 -- the vertex v as a dot
 abbrev pub dot : Names → (ℕ → ℕ) → (ℕ → ℕ) → ℕ → Item
@@ -38,10 +38,10 @@ dot N p y v = Dot (vertex_name N v) (dot_place p y v)
 abbrev pub bends : ℕ → ℕ → ℕ → ℕ → ℕ → List Point
 bends a i k b j =
     cond (j == i + 1)
-    (at a i ∷ at b j ∷ [])
+    (grid_point a i ∷ grid_point b j ∷ [])
     (cond (i + 1 == j - 1)
-    (at a i ∷ at k (i + 1) ∷ at b j ∷ [])
-    (at a i ∷ at k (i + 1) ∷ at k (j - 1) ∷ at b j ∷ []))
+    (grid_point a i ∷ grid_point k (i + 1) ∷ grid_point b j ∷ [])
+    (grid_point a i ∷ grid_point k (i + 1) ∷ grid_point k (j - 1) ∷ grid_point b j ∷ []))
 
 -- the line of an edge, whose column is that of the node on its left
 abbrev pub bent : SidesValue → (ℕ → ℕ) → (ℕ → ℕ) → (ℕ → ℕ) → ℕ → List Point
@@ -49,7 +49,7 @@ bent g y c p e = bends (p (edge_tail g e)) (y (edge_tail g e)) (c (face_left g e
 
 -- the corner of the frame: the column before that of the last node, and the height of the sink
 abbrev pub corner_of : SidesValue → (ℕ → ℕ) → (ℕ → ℕ) → Point
-corner_of g y c = at (c g.t_star - 1) (y g.sink)
+corner_of g y c = grid_point (c g.t_star - 1) (y g.sink)
 
 -- the picture of dots and lines
 abbrev pub polylines : SidesValue → Names → (ℕ → ℕ) → (ℕ → ℕ) → (ℕ → ℕ) → Drawing

@@ -2,8 +2,8 @@
 --   IsPlace place g c v x          x is a column for v that the closure may answer, from the first of its bar to the last
 --   IsPlaceAt place g c places v   the entry of v is such a column
 --   ArePlaces place g c n places   the table has such a column for each of the first n vertices
---   AreTablesBy ..                 heights and columns under weights, and places, which closures may answer
---   AreTables ..                   natural numbers that keep lines apart, in a picture's range
+--   ArePolylineTablesBy ..         heights and columns under weights, and places, which closures may answer
+--   ArePolylineTables ..           natural numbers that keep lines apart, in a picture's range
 -- Letters: g sides, c columns, v vertex, place what the closure may answer.
 use Rattle.std.specs.Prelude.{ℕ, ℤ, pos, ◌≡◌, ◌+◌, ◌-◌, ◌<◌, ◌≤◌, List, length, slice_get, Some}
 use Rattle.st_ids.specs.declared.limits.TheConstants.{MOST_COORDINATE}
@@ -35,7 +35,7 @@ pub record ArePlaces (place : ℤ → ℤ → ℤ → Type 0) (g : SidesValue) (
 
 -- The heights and the columns of the graph under weights that one closure may answer, and a place for each vertex that the
 -- other may answer.
-pub record AreTablesBy (answer : EdgeId → ℕ → Type 0) (place : ℤ → ℤ → ℤ → Type 0) (g : SidesValue) (heights columns places : List ℤ) : Type 0 where
+pub record ArePolylineTablesBy (answer : EdgeId → ℕ → Type 0) (place : ℤ → ℤ → ℤ → Type 0) (g : SidesValue) (heights columns places : List ℤ) : Type 0 where
   pub weight : ℕ → ℕ
   pub taken : (e : ℕ) → e < edge_count g → answer (record { 0 = e }) (weight e)
   pub long : AreLong g weight
@@ -44,7 +44,7 @@ pub record AreTablesBy (answer : EdgeId → ℕ → Type 0) (place : ℤ → ℤ
 
 -- A height and a place for each vertex and a column for each dual node, which keep lines apart; the last of them are no
 -- greater than a coordinate may be.
-pub record AreTables (g : SidesValue) (heights columns places : List ℤ) : Type 0 where
+pub record ArePolylineTables (g : SidesValue) (heights columns places : List ℤ) : Type 0 where
   pub heights_are : HasNaturals heights g.vertices
   pub columns_are : HasNaturals columns (g.t_star + 1)
   pub places_are : HasNaturals places g.vertices

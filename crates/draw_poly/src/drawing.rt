@@ -4,7 +4,7 @@ ghost use Rattle.st_ids.specs.declared.limits.TheConstants.{MOST_COORDINATE};
 ghost use Rattle.draw_poly.specs.Numbers.{IsLongOnParallels};
 ghost use Rattle.draw_poly.specs.Placing.{IsPlacement};
 ghost use Rattle.draw_poly.specs.Polyline.{IsPolylineBy};
-ghost use Rattle.st_number.specs.Weighing.{IsLawful};
+ghost use Rattle.st_number.specs.Weighing.{AreLawfulWeights};
 ghost use Rattle.st_picture.specs.Drawn.{IsDrawn};
 ghost use Rattle.st_picture.specs.Naming.{AreNames};
 ghost use Rattle.st_sides.specs.Sides.{edge_count};
@@ -46,7 +46,7 @@ pub fn polyline<F: Fn(EdgeId) -> u32, G: Fn(i64, i64) -> i64>(
     requires sides { IsSidesOf graph.now.map.graph graph.now.source graph.now.sink graph.now.outer sides.now }
     requires names { AreNames sides.now names.now }
     requires weights { w.now.edges ≡ edge_count sides.now }
-    requires lawful { IsLawful F.pre F.post w.now }
+    requires lawful { AreLawfulWeights F.pre F.post w.now }
     requires long { IsLongOnParallels (F.post w.now.closure) graph.now.map.graph }
     requires placement { IsPlacement G.pre G.post placer.now }
     requires high { sides.now.vertices * w.now.most ≤ MOST_COORDINATE }

@@ -4,8 +4,8 @@ ghost use Rattle.st_ids.specs.declared.limits.TheConstants.{MOST_COORDINATE};
 ghost use Rattle.draw_poly.specs.Numbers.{IsLongOnParallels};
 ghost use Rattle.draw_poly.specs.Placing.{IsPlacement};
 ghost use Rattle.draw_poly.specs.Polyline.{corner_of, dot_place};
-ghost use Rattle.draw_poly.specs.Tables.{AreTables, AreTablesBy};
-ghost use Rattle.st_number.specs.Weighing.{IsLawful};
+ghost use Rattle.draw_poly.specs.Tables.{ArePolylineTables, ArePolylineTablesBy};
+ghost use Rattle.st_number.specs.Weighing.{AreLawfulWeights};
 ghost use Rattle.st_picture.specs.Bars.{number_at};
 ghost use Rattle.st_sides.specs.Sides.{edge_count};
 ghost use Rattle.st_sides.specs.SidesOf.{IsSidesOf};
@@ -39,14 +39,14 @@ impl Grid {
     ) -> Result<Grid, NoMemory>
         requires sides { IsSidesOf graph.now.map.graph graph.now.source graph.now.sink graph.now.outer sides.now }
         requires weights { w.now.edges ≡ edge_count sides.now }
-        requires lawful { IsLawful F.pre F.post w.now }
+        requires lawful { AreLawfulWeights F.pre F.post w.now }
         requires long { IsLongOnParallels (F.post w.now.closure) graph.now.map.graph }
         requires placement { IsPlacement G.pre G.post placer.now }
         requires high { sides.now.vertices * w.now.most ≤ MOST_COORDINATE }
         requires wide { edge_count sides.now ≤ MOST_COORDINATE }
 
-        ensures by { IfOk result (λ t. AreTablesBy (F.post w.now.closure) (G.post placer.now.closure) sides.now t.heights t.columns t.places) }
-        ensures tables { IfOk result (λ t. AreTables sides.now t.heights t.columns t.places) }
+        ensures by { IfOk result (λ t. ArePolylineTablesBy (F.post w.now.closure) (G.post placer.now.closure) sides.now t.heights t.columns t.places) }
+        ensures tables { IfOk result (λ t. ArePolylineTables sides.now t.heights t.columns t.places) }
     {
         laws::local(sides);
         let heights = heights(alloc, graph, w)?;
@@ -89,7 +89,7 @@ impl Grid {
     /// Where the vertex stands.
     pub(crate) fn dot_place(&self, sides: &Sides, v: VertexId) -> Point
         requires there { v.0 < sides.now.vertices }
-        requires tables { AreTables sides.now self.now.heights self.now.columns self.now.places }
+        requires tables { ArePolylineTables sides.now self.now.heights self.now.columns self.now.places }
         ensures { result ≡ dot_place (number_at self.now.places) (number_at self.now.heights) v.0 }
     {
         Point {
@@ -100,7 +100,7 @@ impl Grid {
 
     /// The corner of the frame: the column before the last node of the dual, and the height of the sink.
     pub(crate) fn corner(&self, sides: &Sides) -> Point
-        requires { AreTables sides.now self.now.heights self.now.columns self.now.places }
+        requires { ArePolylineTables sides.now self.now.heights self.now.columns self.now.places }
         ensures { result ≡ corner_of sides.now (number_at self.now.heights) (number_at self.now.columns) }
     {
         laws::local(sides);

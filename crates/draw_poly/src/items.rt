@@ -1,9 +1,9 @@
 //! The items of a polyline picture: dots, lines and labels.
 ghost use Rattle.std.specs.Prelude.{◌≡◌, ℕ, ◌+◌, ◌<◌, ◌^◌, ◌<ℤ◌, pos, IfOk};
 ghost use Rattle.draw_poly.specs.Polyline.{bends, bent, dot, polylines};
-ghost use Rattle.draw_poly.specs.Tables.{AreTables};
+ghost use Rattle.draw_poly.specs.Tables.{ArePolylineTables};
 ghost use Rattle.st_picture.specs.Bars.{number_at};
-ghost use Rattle.st_picture.specs.Items.{at, line};
+ghost use Rattle.st_picture.specs.Items.{grid_point, line};
 ghost use Rattle.st_picture.specs.Naming.{AreNames};
 ghost use Rattle.st_sides.specs.Sides.{edge_count};
 
@@ -18,7 +18,7 @@ use std::alloc::Global;
 /// high end, once where these are one point, and not at all where the line is one row high.
 fn bends(alloc: Global, low: Point, high: Point, x: i64) -> Points
     requires { low.y <ℤ high.y }
-    ensures { (a i k b j : ℕ) → low ≡ at a i → high ≡ at b j → x ≡ pos k → result ≡ bends a i k b j }
+    ensures { (a i k b j : ℕ) → low ≡ grid_point a i → high ≡ grid_point b j → x ≡ pos k → result ≡ bends a i k b j }
 {
     let first = Point { x, y: low.y + 1 };
     let second = Point { x, y: high.y - 1 };
@@ -35,7 +35,7 @@ fn bends(alloc: Global, low: Point, high: Point, x: i64) -> Points
 fn dot_of(sides: &Sides, grid: &Grid, names: &Names, v: VertexId) -> Item
     requires there { v.0 < sides.now.vertices }
     requires names { AreNames sides.now names.now }
-    requires tables { AreTables sides.now grid.now.heights grid.now.columns grid.now.places }
+    requires tables { ArePolylineTables sides.now grid.now.heights grid.now.columns grid.now.places }
     ensures { result ≡ dot names.now (number_at grid.now.places) (number_at grid.now.heights) v.0 }
 {
     dot(names, v, grid.dot_place(sides, v))
@@ -45,7 +45,7 @@ fn dot_of(sides: &Sides, grid: &Grid, names: &Names, v: VertexId) -> Item
 fn bent(alloc: Global, sides: &Sides, grid: &Grid, names: &Names, e: EdgeId) -> Item
     requires there { e.0 < edge_count sides.now }
     requires names { AreNames sides.now names.now }
-    requires tables { AreTables sides.now grid.now.heights grid.now.columns grid.now.places }
+    requires tables { ArePolylineTables sides.now grid.now.heights grid.now.columns grid.now.places }
     ensures { result ≡ line sides.now names.now (bent sides.now (number_at grid.now.heights) (number_at grid.now.columns) (number_at grid.now.places)) e.0 }
 {
     laws::local(sides);
@@ -64,7 +64,7 @@ pub(crate) fn dots_and_lines(
     names: &Names,
 ) -> Result<Picture, NoMemory>
     requires names { AreNames sides.now names.now }
-    requires tables { AreTables sides.now grid.now.heights grid.now.columns grid.now.places }
+    requires tables { ArePolylineTables sides.now grid.now.heights grid.now.columns grid.now.places }
     requires room { sides.now.vertices + edge_count sides.now + sides.now.vertices < 2 ^ 31 }
     ensures { IfOk result (λ d. d ≡ polylines sides.now names.now (number_at grid.now.heights) (number_at grid.now.columns) (number_at grid.now.places)) }
 {

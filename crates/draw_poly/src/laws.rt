@@ -1,5 +1,5 @@
 //! Laws of polyline pictures: empty functions, whose contracts are theorems about the definitions of specs/.
-ghost use Rattle.draw_poly.specs.Laws.{PicturesLaw, PolylineLaw};
+ghost use Rattle.draw_poly.specs.Laws.{PolylinePicturesLaw, PolylineLaw};
 ghost use Rattle.draw_poly.specs.Tracks.{TracksLaw};
 ghost use Rattle.st_sides.specs.Sides.{SidesValue, IsSides};
 
@@ -19,5 +19,5 @@ pub fn polyline()
 
 /// For all weights, names and placements there is a picture, and one alone for given places of the vertices.
 pub fn one_picture()
-    ensures { (g : SidesValue) → IsSides g → PicturesLaw g }
+    ensures { (g : SidesValue) → IsSides g → PolylinePicturesLaw g }
 {}

@@ -12,10 +12,9 @@ use Rattle.st_shape.specs.Rules.{Drawing}
 use Rattle.st_sides.specs.Held.{IsHeld}
 use Rattle.st_sides.specs.Sides.{SidesValue, edge_count}
 use Rattle.st_picture.specs.Bars.{bar_start}
-use Rattle.st_picture.specs.Items.{each, labels, place_at, HasFigures}
+use Rattle.st_picture.specs.Items.{items_by, labels, place_at, HasFigures}
 use Rattle.st_picture.specs.Naming.{AreNames}
-use Rattle.st_picture.proofs.LabelLemmas.{place_is}
-use Rattle.st_picture.proofs.PlaceLemmas.{first_place, labels_same}
+use Rattle.st_picture.proofs.Public.{place_is, first_place, labels_same}
 use Rattle.draw_vis.specs.Tables.{frame_of}
 use Rattle.draw_vis.specs.Tessellation.{full_bar, box, post, boxes}
 
@@ -32,13 +31,13 @@ with d items = record d { items = d.items ++ items }
 
 module _ (g : SidesValue) (N : Names) (A : AreNames g N) (y c : ℕ → ℕ) where
   abbrev bs : List Item
-  bs = each (full_bar g N y c) g.vertices
+  bs = items_by (full_bar g N y c) g.vertices
 
   abbrev xs : List Item
-  xs = each (box g N y c) (edge_count g)
+  xs = items_by (box g N y c) (edge_count g)
 
   abbrev ps : List Item
-  ps = each (post g y c) (g.t_star + 1)
+  ps = items_by (post g y c) (g.t_star + 1)
 
   pub whole : (d0 d1 d2 d3 : Drawing) → d0 ≡ tiles (frame_of g y c) [] → d1 ≡ with d0 bs → d2 ≡ with d1 xs → d3 ≡ with d2 ps → d3 ≡ tiles (frame_of g y c) (bs ++ (xs ++ ps))
   whole d0 d1 d2 d3 p0 p1 p2 p3 =

@@ -16,14 +16,12 @@ use Rattle.st_shape.specs.Rules.{Drawing}
 use Rattle.st_sides.specs.SidesOf.{IsSidesOf}
 use Rattle.st_sides.specs.Sides.{SidesValue, edge_count, face_left, face_right, IsSides}
 use Rattle.st_number.specs.Greatest.{IsHeight, IsColumn}
-use Rattle.st_number.proofs.BoundLemmas.{bounds_law, to_sides}
-use Rattle.st_number.proofs.NumberLemmas.{numbers_law}
+use Rattle.st_number.proofs.Public.{bounds_law, to_sides, numbers_law}
 use Rattle.st_number.specs.Heights.{AreHeights, AreColumns}
 use Rattle.st_number.specs.Numbers.{AreNumbers, AreWeights}
 use Rattle.st_picture.specs.Bars.{number_at, bars, AreTables, HasFrame}
-use Rattle.st_picture.proofs.SpanLemmas.{sink_in}
-use Rattle.st_picture.proofs.TableLemmas.{Has, number_of, naturals}
-use Rattle.draw_vis.specs.Tables.{AreLeftColumns, AreTablesBy, IsLaidOut}
+use Rattle.st_picture.proofs.Public.{sink_in, Has, number_of, naturals}
+use Rattle.draw_vis.specs.Tables.{AreEdgeColumns, AreTablesBy, IsLaidOut}
 use Rattle.draw_vis.specs.Tessellation.{boxes, IsTessellationBy}
 use Rattle.draw_vis.specs.Visibility.{in_left_column, IsVisibilityBy}
 use Rattle.draw_vis.proofs.SameLemmas.{bars_of_lines}
@@ -49,14 +47,14 @@ module _ (g : SidesValue) (S : IsSides g) (w : ℕ → ℕ) (hs cs : List ℤ) (
         wide = omega arith;
       }
 
-pub left_columns : (g : SidesValue) (cs lines : List ℤ) → Has lines (edge_count g) (λ e. number_at cs (face_left g e)) → AreLeftColumns g (number_at cs) lines
+pub left_columns : (g : SidesValue) (cs lines : List ℤ) → Has lines (edge_count g) (λ e. number_at cs (face_left g e)) → AreEdgeColumns g (number_at cs) lines
 left_columns g cs lines H = record {
   lines_are = naturals lines (edge_count g) (λ e. number_at cs (face_left g e)) H;
   each = λ e l. number_of lines (edge_count g) (λ e. number_at cs (face_left g e)) H e l;
 }
 
 -- tables for bars and lines
-pub tables : (g : SidesValue) (hs cs lines : List ℤ) → IsLaidOut g hs cs → AreLeftColumns g (number_at cs) lines → AreTables g hs cs lines
+pub tables : (g : SidesValue) (hs cs lines : List ℤ) → IsLaidOut g hs cs → AreEdgeColumns g (number_at cs) lines → AreTables g hs cs lines
 tables g hs cs lines T L = record {
   heights_are = T.heights_are;
   columns_are = T.columns_are;
@@ -100,7 +98,7 @@ module _ (E : Embedded) (s t outer : ℕ) (g : SidesValue) (Q : IsSidesOf E s t 
     by_tables = record { weight = H.weight; taken = λ e a. H.taken e (subst (λ z. e < z) same_edges a); from_one = weights; numbers = numbers }
 
 module _ (answer : EdgeId → ℕ → Type 0) (g : SidesValue) (hs cs : List ℤ) (T : AreTablesBy answer g hs cs) (N : Names) where
-  pub by_bars : (lines : List ℤ) → AreLeftColumns g (number_at cs) lines → (d : Drawing) → d ≡ bars g N Visibility (number_at hs) (number_at cs) (number_at lines) → IsVisibilityBy answer g N d
+  pub by_bars : (lines : List ℤ) → AreEdgeColumns g (number_at cs) lines → (d : Drawing) → d ≡ bars g N Visibility (number_at hs) (number_at cs) (number_at lines) → IsVisibilityBy answer g N d
   by_bars lines L d q = record {
     weight = T.weight;
     taken = T.taken;

@@ -1,7 +1,8 @@
-pub mod BuildLemmas
-pub mod ItemLemmas
-pub mod LaidLemmas
-pub mod NumberLemmas
-pub mod RowLemmas
-pub mod SameLemmas
-pub mod TileLemmas
+mod BuildLemmas
+mod ItemLemmas
+mod LaidLemmas
+mod NumberLemmas
+mod RowLemmas
+mod SameLemmas
+mod TileLemmas
+pub mod Public

@@ -6,10 +6,10 @@ use Rattle.st_shape.specs.declared.picture.Form.TheVariants.{Visibility}
 use Rattle.st_shape.specs.Rules.{Drawing}
 use Rattle.st_sides.specs.Sides.{SidesValue, IsSides}
 use Rattle.st_number.specs.Numbers.{AreWeights}
-use Rattle.st_number.proofs.NumberLemmas.{numbers_law}
+use Rattle.st_number.proofs.Public.{numbers_law}
 use Rattle.st_picture.specs.Drawn.{IsDrawn}
 use Rattle.st_picture.specs.Naming.{AreNames}
-use Rattle.st_picture.proofs.BarLemmas.{bars_law}
+use Rattle.st_picture.proofs.Public.{bars_law}
 use Rattle.draw_vis.specs.Visibility.{IsVisibility, IsVisibilityBy, in_left_column}
 
 pub visibility_drawn : (g : SidesValue) → IsSides g → (w : ℕ → ℕ) → AreWeights g w → (N : Names) → AreNames g N → (d : Drawing) → IsVisibility g w N d → IsDrawn g d

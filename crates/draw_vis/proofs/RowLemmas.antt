@@ -7,10 +7,9 @@ use Rattle.std.proofs.Common.{ℕ, List, [], ◌∷◌, ◌≡◌, ◌≢◌, �
 use Rattle.std.proofs.lemmas.Bool.{cases_eq}
 use Rattle.st_ids.specs.Lists.{In, here, there, Linked, NextTo, FirstIs, LastIs}
 use Rattle.st_ids.specs.Walks.{Arcs, Walk, stay, step}
-use Rattle.st_ids.proofs.ListLemmas.{not_in_nil, FirstIs-weaken}
-use Rattle.st_ids.proofs.WalkLemmas.{walk_from, walk_to}
+use Rattle.st_ids.proofs.Public.{not_in_nil, FirstIs-weaken, walk_from, walk_to}
 use Rattle.st_sides.specs.Sides.{SidesValue, face_left, face_right, left_of, right_of, outs, ins, MeetsLow, MeetsHigh, IsSides}
-use Rattle.st_picture.proofs.SpanLemmas.{poles_differ, sink_in}
+use Rattle.st_picture.proofs.Public.{poles_differ, sink_in}
 
 -- ---- lists
 pub LastIs-weaken : (P Q : ℕ → Type 0) (xs : List ℕ) → ((x : ℕ) → In x xs → P x → Q x) → LastIs P xs → LastIs Q xs

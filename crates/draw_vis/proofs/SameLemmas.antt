@@ -3,7 +3,7 @@ use Rattle.std.proofs.Common.{ℕ, List, ◌++◌, ◌≡◌, ◌<◌, ◌≤◌
 use Rattle.std.proofs.lemmas.Bool.{cases_eq}
 use Rattle.st_ids.specs.declared.names.Names.{Names}
 use Rattle.st_ids.specs.Walks.{Walk, stay, step}
-use Rattle.st_ids.proofs.WalkLemmas.{on_walk}
+use Rattle.st_ids.proofs.Public.{on_walk}
 use Rattle.st_shape.specs.declared.item.Item.{Item}
 use Rattle.st_shape.specs.declared.item.Item.TheVariants.{Bar, Rect, Face}
 use Rattle.st_shape.specs.declared.picture.Form.{Form}
@@ -12,21 +12,19 @@ use Rattle.st_shape.specs.declared.point.Point.{Point}
 use Rattle.st_shape.specs.Rules.{Drawing}
 use Rattle.st_sides.specs.Objects.{vertex}
 use Rattle.st_sides.specs.Sides.{SidesValue, edge_count, edge_tail, edge_head, face_left, face_right, left_of, right_of, low, high, primal, dual, IsInner, IsSides}
-use Rattle.st_sides.proofs.ExclusiveLemmas.{across}
-use Rattle.st_number.proofs.NumberLemmas.{numbers_law}
+use Rattle.st_sides.proofs.Public.{across}
+use Rattle.st_number.proofs.Public.{numbers_law}
 use Rattle.st_picture.specs.Bars.{bar, bar_start, upright, bars}
-use Rattle.st_picture.specs.Items.{at, each, labels}
+use Rattle.st_picture.specs.Items.{grid_point, items_by, labels}
 use Rattle.st_picture.specs.Naming.{vertex_name, edge_name}
-use Rattle.st_picture.proofs.JoinLemmas.{bars_same, drawing_same}
-use Rattle.st_picture.proofs.PlaceLemmas.{each_same, labels_same}
-use Rattle.st_picture.proofs.SpanLemmas.{right_in, sink_in}
+use Rattle.st_picture.proofs.Public.{bars_same, drawing_same, each_same, labels_same, right_in, sink_in}
 use Rattle.draw_vis.specs.Laws.{PicturesLaw}
 use Rattle.draw_vis.specs.Tessellation.{full_bar, box, post, boxes}
 use Rattle.draw_vis.specs.Visibility.{in_left_column}
 
 -- ---- items
-at_same : (a b a' b' : ℕ) → a ≡ a' → b ≡ b' → at a b ≡ at a' b'
-at_same a b a' b' e f = ap (λ z. at z b) e ∙ ap (λ z. at a' z) f
+at_same : (a b a' b' : ℕ) → a ≡ a' → b ≡ b' → grid_point a b ≡ grid_point a' b'
+at_same a b a' b' e f = ap (λ z. grid_point z b) e ∙ ap (λ z. grid_point a' z) f
 
 bar_same : (N : Names) (v y f t y' f' t' : ℕ) → y ≡ y' → f ≡ f' → t ≡ t' → Bar (vertex_name N v) (pos y) (pos f) (pos t) ≡ Bar (vertex_name N v) (pos y') (pos f') (pos t')
 bar_same N v y f t y' f' t' a b c = ap (λ z. Bar (vertex_name N v) (pos z) (pos f) (pos t)) a ∙ ap (λ z. Bar (vertex_name N v) (pos y') (pos z) (pos t)) b ∙ ap (λ z. Bar (vertex_name N v) (pos y') (pos f') (pos z)) c
@@ -46,8 +44,8 @@ three_same a a' b b' c c' p q r = ap (λ t. t ++ (b ++ c)) p ∙ ap (λ t. a' ++
 -- bars and lines whose lines stand in the same columns
 pub bars_of_lines : (g : SidesValue) (N : Names) (form : Form) (y c k k' : ℕ → ℕ) → ((e : ℕ) → e < edge_count g → k e ≡ k' e) → bars g N form y c k ≡ bars g N form y c k'
 bars_of_lines g N form y c k k' h =
-    drawing_same g N form (at (c g.t_star - 1) (y g.sink)) (at (c g.t_star - 1) (y g.sink)) (bar g N y c) (bar g N y c) (upright g y k) (upright g y k') (bar_start g y c) (bar_start g y c)
-    refl (λ v i. refl) (λ e a. ap (λ z. at z (y (edge_tail g e)) ∷ at z (y (edge_head g e)) ∷ []) (h e a)) (λ v i. refl)
+    drawing_same g N form (grid_point (c g.t_star - 1) (y g.sink)) (grid_point (c g.t_star - 1) (y g.sink)) (bar g N y c) (bar g N y c) (upright g y k) (upright g y k') (bar_start g y c) (bar_start g y c)
+    refl (λ v i. refl) (λ e a. ap (λ z. grid_point z (y (edge_tail g e)) ∷ grid_point z (y (edge_head g e)) ∷ []) (h e a)) (λ v i. refl)
 
 module _ (g : SidesValue) (S : IsSides g) where
   -- ---- numbers that are in range
@@ -95,10 +93,10 @@ module _ (g : SidesValue) (S : IsSides g) where
     one_bars = bars_same g S N Visibility y c (in_left_column g c) y' c' (in_left_column g c') ys cs (λ e a. cs (face_left g e) (edge_left_in e a))
 
     -- ---- boxes
-    box_same : (e a b x z a' b' x' z' : ℕ) → a ≡ a' → b ≡ b' → x ≡ x' → z ≡ z' → Rect (edge_name N e) (vertex_name N (edge_tail g e)) (vertex_name N (edge_head g e)) (at a b) (at x z) ≡ Rect (edge_name N e) (vertex_name N (edge_tail g e)) (vertex_name N (edge_head g e)) (at a' b') (at x' z')
+    box_same : (e a b x z a' b' x' z' : ℕ) → a ≡ a' → b ≡ b' → x ≡ x' → z ≡ z' → Rect (edge_name N e) (vertex_name N (edge_tail g e)) (vertex_name N (edge_head g e)) (grid_point a b) (grid_point x z) ≡ Rect (edge_name N e) (vertex_name N (edge_tail g e)) (vertex_name N (edge_head g e)) (grid_point a' b') (grid_point x' z')
     box_same e a b x z a' b' x' z' p q r s =
-        ap (λ t. Rect (edge_name N e) (vertex_name N (edge_tail g e)) (vertex_name N (edge_head g e)) t (at x z)) (at_same a b a' b' p q)
-        ∙ ap (λ t. Rect (edge_name N e) (vertex_name N (edge_tail g e)) (vertex_name N (edge_head g e)) (at a' b') t) (at_same x z x' z' r s)
+        ap (λ t. Rect (edge_name N e) (vertex_name N (edge_tail g e)) (vertex_name N (edge_head g e)) t (grid_point x z)) (at_same a b a' b' p q)
+        ∙ ap (λ t. Rect (edge_name N e) (vertex_name N (edge_tail g e)) (vertex_name N (edge_head g e)) (grid_point a' b') t) (at_same x z x' z' r s)
 
     one_box : (e : ℕ) → e < edge_count g → box g N y c e ≡ box g N y' c' e
     one_box e a = box_same e (c (face_left g e)) (y (edge_tail g e)) (c (face_right g e)) (y (edge_head g e)) (c' (face_left g e)) (y' (edge_tail g e)) (c' (face_right g e)) (y' (edge_head g e))
@@ -109,17 +107,17 @@ module _ (g : SidesValue) (S : IsSides g) where
         let E = face_ends f (omega arith) in
         post_same f (c f) (y (low g f)) (y (high g f)) (c' f) (y' (low g f)) (y' (high g f)) (cs f (omega arith)) (ys (low g f) E.0) (ys (high g f) E.1)
 
-    posts_agree : each (post g y c) (g.t_star + 1) ++ labels N (bar_start g y c) g.vertices ≡ each (post g y' c') (g.t_star + 1) ++ labels N (bar_start g y' c') g.vertices
+    posts_agree : items_by (post g y c) (g.t_star + 1) ++ labels N (bar_start g y c) g.vertices ≡ items_by (post g y' c') (g.t_star + 1) ++ labels N (bar_start g y' c') g.vertices
     posts_agree =
         ap (λ z. z ++ labels N (bar_start g y c) g.vertices) (each_same (post g y c) (post g y' c') (g.t_star + 1) one_post)
-        ∙ ap (λ z. each (post g y' c') (g.t_star + 1) ++ z) labels_agree
+        ∙ ap (λ z. items_by (post g y' c') (g.t_star + 1) ++ z) labels_agree
 
     pub one_boxes : boxes g N y c ≡ boxes g N y' c'
-    one_boxes = picture_same Tessellation (at (c g.t_star) (y g.sink)) (at (c' g.t_star) (y' g.sink))
-        (each (full_bar g N y c) g.vertices ++ (each (box g N y c) (edge_count g) ++ (each (post g y c) (g.t_star + 1) ++ labels N (bar_start g y c) g.vertices)))
-        (each (full_bar g N y' c') g.vertices ++ (each (box g N y' c') (edge_count g) ++ (each (post g y' c') (g.t_star + 1) ++ labels N (bar_start g y' c') g.vertices)))
+    one_boxes = picture_same Tessellation (grid_point (c g.t_star) (y g.sink)) (grid_point (c' g.t_star) (y' g.sink))
+        (items_by (full_bar g N y c) g.vertices ++ (items_by (box g N y c) (edge_count g) ++ (items_by (post g y c) (g.t_star + 1) ++ labels N (bar_start g y c) g.vertices)))
+        (items_by (full_bar g N y' c') g.vertices ++ (items_by (box g N y' c') (edge_count g) ++ (items_by (post g y' c') (g.t_star + 1) ++ labels N (bar_start g y' c') g.vertices)))
         (at_same (c g.t_star) (y g.sink) (c' g.t_star) (y' g.sink) (cs g.t_star (omega arith)) (ys g.sink (sink_in g S)))
-        (three_same (each (full_bar g N y c) g.vertices) (each (full_bar g N y' c') g.vertices) (each (box g N y c) (edge_count g)) (each (box g N y' c') (edge_count g)) (each (post g y c) (g.t_star + 1) ++ labels N (bar_start g y c) g.vertices) (each (post g y' c') (g.t_star + 1) ++ labels N (bar_start g y' c') g.vertices)
+        (three_same (items_by (full_bar g N y c) g.vertices) (items_by (full_bar g N y' c') g.vertices) (items_by (box g N y c) (edge_count g)) (items_by (box g N y' c') (edge_count g)) (items_by (post g y c) (g.t_star + 1) ++ labels N (bar_start g y c) g.vertices) (items_by (post g y' c') (g.t_star + 1) ++ labels N (bar_start g y' c') g.vertices)
         (each_same (full_bar g N y c) (full_bar g N y' c') g.vertices (λ v i. bar_same N v (y v) (c (left_of g v)) (c (right_of g v)) (y' v) (c' (left_of g v)) (c' (right_of g v)) (ys v i) (cs (left_of g v) (left_in v i)) (cs (right_of g v) (right_in g S v i))))
         (each_same (box g N y c) (box g N y' c') (edge_count g) one_box)
         posts_agree)

@@ -10,8 +10,7 @@ use Rattle.st_ids.specs.declared.ids.EdgeId.{EdgeId}
 use Rattle.st_ids.specs.declared.names.Names.{Names}
 use Rattle.st_ids.specs.Lists.{In, Linked, FirstIs, LastIs}
 use Rattle.st_ids.specs.Walks.{Walk, stay, step}
-use Rattle.st_ids.proofs.ListLemmas.{FirstIs-weaken}
-use Rattle.st_ids.proofs.WalkLemmas.{on_walk}
+use Rattle.st_ids.proofs.Public.{FirstIs-weaken, on_walk}
 use Rattle.st_shape.specs.declared.item.Item.{Item}
 use Rattle.st_shape.specs.declared.point.Point.{Point}
 use Rattle.st_shape.specs.Boxes.{HasCell, HasOneBox, IsTiled}
@@ -19,16 +18,13 @@ use Rattle.st_shape.specs.Rules.{Drawing, FitsFrame}
 use Rattle.st_sides.specs.Sides.{SidesValue, edge_count, edge_tail, edge_head, face_left, face_right, left_of, right_of, low, high, outs, ins, primal, IsInner, MeetsLow, MeetsHigh, IsSides}
 use Rattle.st_sides.specs.Objects.{vertex}
 use Rattle.st_number.specs.Numbers.{AreWeights}
-use Rattle.st_number.proofs.NumberLemmas.{numbers_law}
+use Rattle.st_number.proofs.Public.{numbers_law}
 use Rattle.st_picture.specs.Bars.{bar_start}
 use Rattle.st_picture.specs.Drawn.{IsFitting}
 use Rattle.st_picture.specs.Growing.{GrowsUp, GrowsRight, IsInBox}
-use Rattle.st_picture.specs.Items.{at, each, labels}
+use Rattle.st_picture.specs.Items.{grid_point, items_by, labels}
 use Rattle.st_picture.specs.Naming.{AreNames, vertex_name, edge_name}
-use Rattle.st_picture.proofs.FigureLemmas.{figures_law, reach_grows}
-use Rattle.st_picture.proofs.NaturalLemmas.{pos_less, pos_most, inside}
-use Rattle.st_picture.proofs.PlaceLemmas.{all_append, all_each, all_labels, all_at, later_place, first_place, place_cases}
-use Rattle.st_picture.proofs.SpanLemmas.{low_height, low_column, right_column, wide}
+use Rattle.st_picture.proofs.Public.{figures_law, reach_grows, pos_less, pos_most, inside, all_append, all_each, all_labels, all_at, later_place, first_place, place_cases, low_height, low_column, right_column, wide}
 use Rattle.draw_vis.specs.Rows.{HasBox, IsRow, ShowsRows, IsTessellated}
 use Rattle.draw_vis.specs.Tables.{frame_of}
 use Rattle.draw_vis.specs.Tessellation.{full_bar, box, post, boxes, IsTessellation, IsTessellationBy}
@@ -103,13 +99,13 @@ module _ (g : SidesValue) (S : IsSides g) (N : Names) (A : AreNames g N) (y c : 
   place = bar_start g y c
 
   abbrev faces : List Item
-  faces = each (post g y c) (g.t_star + 1) ++ labels N place g.vertices
+  faces = items_by (post g y c) (g.t_star + 1) ++ labels N place g.vertices
 
   bar_is : (v : ℕ) → v < g.vertices → slice_get picture.items v ≡ Some (full_bar g N y c v)
-  bar_is v i = first_place (full_bar g N y c) g.vertices (each (box g N y c) (edge_count g) ++ faces) v i
+  bar_is v i = first_place (full_bar g N y c) g.vertices (items_by (box g N y c) (edge_count g) ++ faces) v i
 
   box_is : (e : ℕ) → e < edge_count g → slice_get picture.items (g.vertices + e) ≡ Some (box g N y c e)
-  box_is e a = later_place (full_bar g N y c) g.vertices (each (box g N y c) (edge_count g) ++ faces) e ∙ first_place (box g N y c) (edge_count g) faces e a
+  box_is e a = later_place (full_bar g N y c) g.vertices (items_by (box g N y c) (edge_count g) ++ faces) e ∙ first_place (box g N y c) (edge_count g) faces e a
 
   -- ---- tiles
   record BoxOf (i j m : ℕ) : Type 0 where
@@ -127,7 +123,7 @@ module _ (g : SidesValue) (S : IsSides g) (N : Names) (A : AreNames g N) (y c : 
   }
 
   box_of : (i j m : ℕ) (x : Item) → slice_get picture.items m ≡ Some x → HasCell x i j → BoxOf i j m
-  box_of i j m x q h = elim (place_cases (full_bar g N y c) g.vertices (each (box g N y c) (edge_count g) ++ faces) m x q) [
+  box_of i j m x q h = elim (place_cases (full_bar g N y c) g.vertices (items_by (box g N y c) (edge_count g) ++ faces) m x q) [
     | inl k ↦ absurd (subst (λ z. HasCell z i j) k.1 h)
     | inr k ↦ elim (place_cases (box g N y c) (edge_count g) faces k.k x k.is) [
       | inl l ↦ record { e = k.k; place = k.place; has = in_box k.k i j l.0 (subst (λ z. HasCell z i j) l.1 h) }
@@ -164,18 +160,18 @@ module _ (g : SidesValue) (S : IsSides g) (N : Names) (A : AreNames g N) (y c : 
   tiled c0 y0 = record { each = λ i j a b. one_box c0 y0 i j (less_of i (c g.t_star) a) (less_of j (y g.sink) b) }
 
   -- ---- rows
-  a_box : (e : ℕ) (P : Point → Point → Type 0) → e < edge_count g → P (at (c (face_left g e)) (y (edge_tail g e))) (at (c (face_right g e)) (y (edge_head g e))) → HasBox picture.items (g.vertices + e) P
+  a_box : (e : ℕ) (P : Point → Point → Type 0) → e < edge_count g → P (grid_point (c (face_left g e)) (y (edge_tail g e))) (grid_point (c (face_right g e)) (y (edge_head g e))) → HasBox picture.items (g.vertices + e) P
   a_box e P a h = record {
     name = edge_name N e;
     tail = vertex_name N (edge_tail g e);
     head = vertex_name N (edge_head g e);
-    lowest = at (c (face_left g e)) (y (edge_tail g e));
-    highest = at (c (face_right g e)) (y (edge_head g e));
+    lowest = grid_point (c (face_left g e)) (y (edge_tail g e));
+    highest = grid_point (c (face_right g e)) (y (edge_head g e));
     is = box_is e a;
     holds = h;
   }
 
-  row : (v : ℕ) (es : List ℕ) (P : Point → Point → Type 0) → ((e : ℕ) → In e es → e < edge_count g) → ((e : ℕ) → In e es → P (at (c (face_left g e)) (y (edge_tail g e))) (at (c (face_right g e)) (y (edge_head g e)))) → FirstIs (λ e. left_of g v ≡ face_left g e) es → Linked (λ e f. face_right g e ≡ face_left g f) es → LastIs (λ e. right_of g v ≡ face_right g e) es → IsRow picture.items g.vertices P (pos (c (left_of g v))) (pos (c (right_of g v))) es
+  row : (v : ℕ) (es : List ℕ) (P : Point → Point → Type 0) → ((e : ℕ) → In e es → e < edge_count g) → ((e : ℕ) → In e es → P (grid_point (c (face_left g e)) (y (edge_tail g e))) (grid_point (c (face_right g e)) (y (edge_head g e)))) → FirstIs (λ e. left_of g v ≡ face_left g e) es → Linked (λ e f. face_right g e ≡ face_left g f) es → LastIs (λ e. right_of g v ≡ face_right g e) es → IsRow picture.items g.vertices P (pos (c (left_of g v))) (pos (c (right_of g v))) es
   row v es P within level F K L = record {
     each = λ e i. a_box e P (within e i) (level e i);
     first = FirstIs-weaken (λ e. left_of g v ≡ face_left g e) (λ e. HasBox picture.items (g.vertices + e) (λ lowest highest. lowest.x ≡ pos (c (left_of g v)))) es
@@ -202,10 +198,10 @@ module _ (g : SidesValue) (S : IsSides g) (N : Names) (A : AreNames g N) (y c : 
   }
 
   fitting : IsFitting picture
-  fitting = all_append fit (each (full_bar g N y c) g.vertices) (each (box g N y c) (edge_count g) ++ faces)
+  fitting = all_append fit (items_by (full_bar g N y c) g.vertices) (items_by (box g N y c) (edge_count g) ++ faces)
       (all_each fit (full_bar g N y c) g.vertices (bar_fits g S y c up rightward N))
-      (all_append fit (each (box g N y c) (edge_count g)) faces (all_each fit (box g N y c) (edge_count g) (box_fits g S y c up rightward N))
-      (all_append fit (each (post g y c) (g.t_star + 1)) (labels N place g.vertices) (all_each fit (post g y c) (g.t_star + 1) (post_fits g S y c up rightward))
+      (all_append fit (items_by (box g N y c) (edge_count g)) faces (all_each fit (box g N y c) (edge_count g) (box_fits g S y c up rightward N))
+      (all_append fit (items_by (post g y c) (g.t_star + 1)) (labels N place g.vertices) (all_each fit (post g y c) (g.t_star + 1) (post_fits g S y c up rightward))
       (all_labels fit N place g.vertices (λ v text i q.
       let w : c (left_of g v) < c (right_of g v) = wide g S c rightward (vertex v) i in
       let r : c (right_of g v) ≤ c g.t_star = right_column g S c rightward v i in

@@ -1,8 +1,8 @@
 -- Tables of heights and columns, as the code has them.
---   IsLaidOut g heights columns   a height for each vertex and a column for each dual node, which grow, in a picture's range
---   AreTablesBy answer g heights columns   the heights and columns of the graph under weights which a closure may answer
---   frame_of g y c                the corner of the frame of a tessellation
---   AreLeftColumns g c lines      for each edge the column of the node on its left
+--   IsLaidOut g heights columns           a height for each vertex and a column for each dual node, which grow, in a picture's range
+--   AreTablesBy answer g heights columns  the heights and columns of the graph under weights which a closure may answer
+--   frame_of g y c                        the corner of the frame of a tessellation
+--   AreEdgeColumns g c lines              for each edge the column of the node on its left
 -- Letters: g sides, y heights, c columns, e edge.
 use Rattle.std.specs.Prelude.{ℕ, ◌≡◌, ◌+◌, ◌<◌, ◌≤◌, List, ℤ}
 use Rattle.st_ids.specs.declared.limits.TheConstants.{MOST_COORDINATE}
@@ -12,7 +12,7 @@ use Rattle.st_sides.specs.Sides.{SidesValue, edge_count, face_left}
 use Rattle.st_number.specs.Numbers.{AreNumbers, AreWeights}
 use Rattle.st_picture.specs.Bars.{number_at, HasNaturals}
 use Rattle.st_picture.specs.Growing.{GrowsUp, GrowsRight}
-use Rattle.st_picture.specs.Items.{at}
+use Rattle.st_picture.specs.Items.{grid_point}
 
 -- There is a height for each vertex and a column for each dual node; heights grow along the edges, and columns along the arcs
 -- of the dual; the last of them are no greater than a coordinate may be.
@@ -34,9 +34,9 @@ pub record AreTablesBy (answer : EdgeId → ℕ → Type 0) (g : SidesValue) (he
 
 -- the corner of the frame of a tessellation
 abbrev pub frame_of : SidesValue → (ℕ → ℕ) → (ℕ → ℕ) → Point
-frame_of g y c = at (c g.t_star) (y g.sink)
+frame_of g y c = grid_point (c g.t_star) (y g.sink)
 
 -- for each edge the column of the node on its left
-pub record AreLeftColumns (g : SidesValue) (c : ℕ → ℕ) (lines : List ℤ) : Type 0 where
+pub record AreEdgeColumns (g : SidesValue) (c : ℕ → ℕ) (lines : List ℤ) : Type 0 where
   pub lines_are : HasNaturals lines (edge_count g)
   pub each : (e : ℕ) → e < edge_count g → number_at lines e ≡ c (face_left g e)

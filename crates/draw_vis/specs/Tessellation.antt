@@ -18,7 +18,7 @@ use Rattle.st_shape.specs.Rules.{Drawing}
 use Rattle.st_sides.specs.Sides.{SidesValue, edge_count, edge_tail, edge_head, face_left, face_right, left_of, right_of, low, high}
 use Rattle.st_number.specs.Numbers.{AreNumbers, AreWeights}
 use Rattle.st_picture.specs.Bars.{bar_start}
-use Rattle.st_picture.specs.Items.{at, each, labels}
+use Rattle.st_picture.specs.Items.{grid_point, items_by, labels}
 use Rattle.st_picture.specs.Naming.{vertex_name, edge_name}
 
 -- the vertex v as a bar
@@ -27,7 +27,7 @@ full_bar g N y c v = Bar (vertex_name N v) (pos (y v)) (pos (c (left_of g v))) (
 
 -- the edge e as a box
 abbrev pub box : SidesValue → Names → (ℕ → ℕ) → (ℕ → ℕ) → ℕ → Item
-box g N y c e = Rect (edge_name N e) (vertex_name N (edge_tail g e)) (vertex_name N (edge_head g e)) (at (c (face_left g e)) (y (edge_tail g e))) (at (c (face_right g e)) (y (edge_head g e)))
+box g N y c e = Rect (edge_name N e) (vertex_name N (edge_tail g e)) (vertex_name N (edge_head g e)) (grid_point (c (face_left g e)) (y (edge_tail g e))) (grid_point (c (face_right g e)) (y (edge_head g e)))
 
 -- the node f as an upright line
 abbrev pub post : SidesValue → (ℕ → ℕ) → (ℕ → ℕ) → ℕ → Item
@@ -37,8 +37,8 @@ post g y c f = Face f (pos (c f)) (pos (y (low g f))) (pos (y (high g f)))
 abbrev pub boxes : SidesValue → Names → (ℕ → ℕ) → (ℕ → ℕ) → Drawing
 boxes g N y c = record {
   form = Tessellation;
-  frame = at (c g.t_star) (y g.sink);
-  items = each (full_bar g N y c) g.vertices ++ (each (box g N y c) (edge_count g) ++ (each (post g y c) (g.t_star + 1) ++ labels N (bar_start g y c) g.vertices));
+  frame = grid_point (c g.t_star) (y g.sink);
+  items = items_by (full_bar g N y c) g.vertices ++ (items_by (box g N y c) (edge_count g) ++ (items_by (post g y c) (g.t_star + 1) ++ labels N (bar_start g y c) g.vertices));
 }
 
 -- The picture of the heights and columns of the graph.

@@ -2,9 +2,9 @@
 ghost use Rattle.std.specs.Prelude.{◌≡◌, ◌*◌, ◌<◌, ◌≤◌, ◌≤ℤ◌, length, pos, slice_index_or, IfOk};
 ghost use Rattle.st_ids.specs.declared.limits.TheConstants.{MOST_COORDINATE};
 ghost use Rattle.draw_vis.specs.Tables.{AreTablesBy, IsLaidOut};
-ghost use Rattle.st_number.specs.Weighing.{IsLawful};
+ghost use Rattle.st_number.specs.Weighing.{AreLawfulWeights};
 ghost use Rattle.st_picture.specs.Bars.{number_at};
-ghost use Rattle.st_picture.specs.Items.{at};
+ghost use Rattle.st_picture.specs.Items.{grid_point};
 ghost use Rattle.st_sides.specs.Sides.{edge_count};
 ghost use Rattle.st_sides.specs.SidesOf.{IsSidesOf};
 
@@ -33,7 +33,7 @@ impl Grid {
     ) -> Result<Grid, NoMemory>
         requires sides { IsSidesOf graph.now.map.graph graph.now.source graph.now.sink graph.now.outer sides.now }
         requires weights { w.now.edges ≡ edge_count sides.now }
-        requires lawful { IsLawful F.pre F.post w.now }
+        requires lawful { AreLawfulWeights F.pre F.post w.now }
         requires high { sides.now.vertices * w.now.most ≤ MOST_COORDINATE }
         requires wide { edge_count sides.now ≤ MOST_COORDINATE }
 
@@ -70,7 +70,7 @@ impl Grid {
         requires column { pos 0 ≤ℤ slice_index_or self.now.columns f.0 (pos 0) }
         requires vertex { v.0 < length self.now.heights }
         requires height { pos 0 ≤ℤ slice_index_or self.now.heights v.0 (pos 0) }
-        ensures { result ≡ at (number_at self.now.columns f.0) (number_at self.now.heights v.0) }
+        ensures { result ≡ grid_point (number_at self.now.columns f.0) (number_at self.now.heights v.0) }
     {
         Point {
             x: self.column(f),

@@ -4,9 +4,9 @@ ghost use Rattle.st_ids.specs.declared.limits.TheConstants.{MOST_COORDINATE};
 ghost use Rattle.draw_vis.specs.Rows.{IsTessellated};
 ghost use Rattle.draw_vis.specs.Tables.{IsLaidOut, frame_of};
 ghost use Rattle.draw_vis.specs.Tessellation.{IsTessellationBy, box, boxes, full_bar, post};
-ghost use Rattle.st_number.specs.Weighing.{IsLawful};
+ghost use Rattle.st_number.specs.Weighing.{AreLawfulWeights};
 ghost use Rattle.st_picture.specs.Bars.{number_at};
-ghost use Rattle.st_picture.specs.Items.{each};
+ghost use Rattle.st_picture.specs.Items.{items_by};
 ghost use Rattle.st_picture.specs.Naming.{AreNames};
 ghost use Rattle.st_sides.specs.Sides.{edge_count};
 ghost use Rattle.st_sides.specs.SidesOf.{IsSidesOf};
@@ -43,7 +43,7 @@ pub fn tessellation<F: Fn(EdgeId) -> u32>(
     requires sides { IsSidesOf graph.now.map.graph graph.now.source graph.now.sink graph.now.outer sides.now }
     requires names { AreNames sides.now names.now }
     requires weights { w.now.edges ≡ edge_count sides.now }
-    requires lawful { IsLawful F.pre F.post w.now }
+    requires lawful { AreLawfulWeights F.pre F.post w.now }
     requires high { sides.now.vertices * w.now.most ≤ MOST_COORDINATE }
     requires wide { edge_count sides.now ≤ MOST_COORDINATE }
 
@@ -115,7 +115,7 @@ fn push_bars(
     requires tables { IsLaidOut sides.now grid.now.heights grid.now.columns }
     requires frame { picture.old.frame ≡ frame_of sides.now (number_at grid.now.heights) (number_at grid.now.columns) }
     requires room { length picture.old.items + sides.now.vertices < 2 ^ 31 }
-    ensures { OnOk result (picture.new ≡ record picture.old { items = picture.old.items ++ each (full_bar sides.now names.now (number_at grid.now.heights) (number_at grid.now.columns)) sides.now.vertices }) }
+    ensures { OnOk result (picture.new ≡ record picture.old { items = picture.old.items ++ items_by (full_bar sides.now names.now (number_at grid.now.heights) (number_at grid.now.columns)) sides.now.vertices }) }
 {
     laws::local(sides);
     push_each(picture, sides.vertices(), |v| {
@@ -134,7 +134,7 @@ fn push_boxes(
     requires tables { IsLaidOut sides.now grid.now.heights grid.now.columns }
     requires frame { picture.old.frame ≡ frame_of sides.now (number_at grid.now.heights) (number_at grid.now.columns) }
     requires room { length picture.old.items + edge_count sides.now < 2 ^ 31 }
-    ensures { OnOk result (picture.new ≡ record picture.old { items = picture.old.items ++ each (box sides.now names.now (number_at grid.now.heights) (number_at grid.now.columns)) (edge_count sides.now) }) }
+    ensures { OnOk result (picture.new ≡ record picture.old { items = picture.old.items ++ items_by (box sides.now names.now (number_at grid.now.heights) (number_at grid.now.columns)) (edge_count sides.now) }) }
 {
     laws::local(sides);
     push_each(picture, sides.edges(), |e| {
@@ -147,7 +147,7 @@ fn push_posts(picture: &mut Picture, sides: &Sides, grid: &Grid) -> Result<(), N
     requires tables { IsLaidOut sides.now grid.now.heights grid.now.columns }
     requires frame { picture.old.frame ≡ frame_of sides.now (number_at grid.now.heights) (number_at grid.now.columns) }
     requires room { length picture.old.items + (sides.now.t_star + 1) < 2 ^ 31 }
-    ensures { OnOk result (picture.new ≡ record picture.old { items = picture.old.items ++ each (post sides.now (number_at grid.now.heights) (number_at grid.now.columns)) (sides.now.t_star + 1) }) }
+    ensures { OnOk result (picture.new ≡ record picture.old { items = picture.old.items ++ items_by (post sides.now (number_at grid.now.heights) (number_at grid.now.columns)) (sides.now.t_star + 1) }) }
 {
     laws::local(sides);
     push_each(picture, sides.faces(), |f| {

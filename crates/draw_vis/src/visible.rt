@@ -1,9 +1,9 @@
 //! Visibility: vertices as level bars, edges as upright lines.
 ghost use Rattle.std.specs.Prelude.{◌≡◌, ◌*◌, ◌≤◌, IfOk};
 ghost use Rattle.st_ids.specs.declared.limits.TheConstants.{MOST_COORDINATE};
-ghost use Rattle.draw_vis.specs.Tables.{AreLeftColumns, IsLaidOut};
+ghost use Rattle.draw_vis.specs.Tables.{AreEdgeColumns, IsLaidOut};
 ghost use Rattle.draw_vis.specs.Visibility.{IsVisibilityBy};
-ghost use Rattle.st_number.specs.Weighing.{IsLawful};
+ghost use Rattle.st_number.specs.Weighing.{AreLawfulWeights};
 ghost use Rattle.st_picture.specs.Bars.{number_at};
 ghost use Rattle.st_picture.specs.Drawn.{IsDrawn};
 ghost use Rattle.st_picture.specs.Naming.{AreNames};
@@ -41,7 +41,7 @@ pub fn visibility<F: Fn(EdgeId) -> u32>(
     requires sides { IsSidesOf graph.now.map.graph graph.now.source graph.now.sink graph.now.outer sides.now }
     requires names { AreNames sides.now names.now }
     requires weights { w.now.edges ≡ edge_count sides.now }
-    requires lawful { IsLawful F.pre F.post w.now }
+    requires lawful { AreLawfulWeights F.pre F.post w.now }
     requires high { sides.now.vertices * w.now.most ≤ MOST_COORDINATE }
     requires wide { edge_count sides.now ≤ MOST_COORDINATE }
 
@@ -66,7 +66,7 @@ pub fn visibility<F: Fn(EdgeId) -> u32>(
 /// For each edge the column of the node on its left.
 fn left_columns(alloc: Global, sides: &Sides, grid: &Grid) -> Result<IdVec<EdgeId, i64>, NoMemory>
     requires { IsLaidOut sides.now grid.now.heights grid.now.columns }
-    ensures { IfOk result (AreLeftColumns sides.now (number_at grid.now.columns)) }
+    ensures { IfOk result (AreEdgeColumns sides.now (number_at grid.now.columns)) }
 {
     laws::local(sides);
     let mut lines = IdVec::new(alloc);

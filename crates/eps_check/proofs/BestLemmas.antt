@@ -5,7 +5,7 @@ use Rattle.std.proofs.lemmas.Option.{slice_get-get_or, slice_get_within}
 use Rattle.st_shape.specs.declared.item.Item.{Item}
 use Rattle.eps_check.specs.declared.pairs.Pair.{Pair}
 use Rattle.eps_check.specs.declared.spans.Span.{Span}
-use Rattle.eps_check.specs.Pairs.{AreSorted, AreThese, IsBeside, IsBest, IsBetter, IsSearched}
+use Rattle.eps_check.specs.Pairs.{AreSorted, AreThese, IsBetterBeside, IsBest, IsBetter, IsSearched}
 
 same_span : (s t : Span) → Some s ≡ Some t → s ≡ t
 same_span s t e = cc
@@ -14,11 +14,11 @@ read_span : (spans : List Span) (i k : ℕ) (s t : Span) → i ≡ k → slice_g
 read_span spans i k s t z e f = same_span s t (sym e ∙ ap (slice_get spans) z ∙ f)
 
 module _ (items : List Item) (spans : List Span) where
-  pub beside_none : (p : ℕ) (best : Option Pair) → IsBeside items spans p (p + 1) best best
+  pub beside_none : (p : ℕ) (best : Option Pair) → IsBetterBeside items spans p (p + 1) best best
   beside_none p best = record { real = λ h. h; keeps = λ i j h. h; own = λ r s t h k e f l i j m these g. absurd (omega (arith, h, k)) }
 
   pub beside_next : (p q : ℕ) (s t : Span) (best found new : Option Pair) → slice_get spans p ≡ Some s → slice_get spans q ≡ Some t →
-      IsBetter items s.item t.item found new → IsBeside items spans p q best found → IsBeside items spans p (q + 1) best new
+      IsBetter items s.item t.item found new → IsBetterBeside items spans p q best found → IsBetterBeside items spans p (q + 1) best new
   beside_next p q s t best found new s_is t_is b old =
       record {
         real = λ h. b.real (old.real h);
@@ -35,7 +35,7 @@ module _ (items : List Item) (spans : List Span) where
 
   -- all spans further behind begin above the span
   pub beside_stop : AreSorted spans → (p q : ℕ) (s t : Span) (best found : Option Pair) → slice_get spans p ≡ Some s → slice_get spans q ≡ Some t →
-      s.high < t.low → IsBeside items spans p q best found → IsBeside items spans p (length spans) best found
+      s.high < t.low → IsBetterBeside items spans p q best found → IsBetterBeside items spans p (length spans) best found
   beside_stop sorted p q s t best found s_is t_is above old =
       record {
         real = old.real;
@@ -54,11 +54,11 @@ module _ (items : List Item) (spans : List Span) where
             ];
       }
 
-  pub beside_all : (p q : ℕ) (best found : Option Pair) → length spans ≤ q → IsBeside items spans p q best found → IsBeside items spans p (length spans) best found
+  pub beside_all : (p q : ℕ) (best found : Option Pair) → length spans ≤ q → IsBetterBeside items spans p q best found → IsBetterBeside items spans p (length spans) best found
   beside_all p q best found all old =
       record { real = old.real; keeps = old.keeps; own = λ r s t h k e f l i j m these g. old.own r s t h (omega (arith, k, all)) e f l i j m these g }
 
-  pub searched_next : (k : ℕ) (best new : Option Pair) → IsSearched items spans k best → IsBeside items spans k (length spans) best new →
+  pub searched_next : (k : ℕ) (best new : Option Pair) → IsSearched items spans k best → IsBetterBeside items spans k (length spans) best new →
       IsSearched items spans (k + 1) new
   searched_next k best new old b =
       record {

@@ -11,7 +11,7 @@ use Rattle.st_shape.specs.Clean.{FaultyAlone, FaultyPair, IsSegmentOf, IsVertexN
 use Rattle.st_shape.specs.Least.{NoPair}
 use Rattle.st_shape.specs.Meeting.{IsAt, IsOnGrid, LiesOn, Ratio}
 use Rattle.st_shape.specs.Verdict.{IsClean}
-use Rattle.st_shape.proofs.Climbing.{on_grid_at, one_point}
+use Rattle.st_shape.proofs.Public.{on_grid_at, one_point}
 use Rattle.eps_check.specs.declared.strip.Strip.{Strip}
 use Rattle.eps_check.specs.declared.names.Vertex.{Vertex}
 use Rattle.eps_check.specs.Names.{AreDistinct, AreInPlace, IsOnVertex, IsInPlace, IsLineInPlace}

@@ -2,15 +2,15 @@
 use Rattle.std.proofs.Common.{ℕ, Result, Ok, Err, IfOk}
 use Rattle.eps_check.specs.declared.front.Front.{Front, Last}
 use Rattle.eps_check.specs.declared.strip.Strip.{Strip}
-use Rattle.eps_check.specs.Fronts.{IsAllLeft, IsPlaced}
-use Rattle.eps_check.specs.Strips.{IsStrip, Passes}
+use Rattle.eps_check.specs.Fronts.{IsAllLeft, PlacesStrip}
+use Rattle.eps_check.specs.Strips.{IsStrip, PassesTest}
 use Rattle.eps_check.proofs.StripLemmas.{behind_left, behind_self, left_behind, passes_left}
 
-pub last_left : (s p : Strip) (lo hi : ℕ) → Passes s p lo hi → IsAllLeft (Last s) lo hi p
+pub last_left : (s p : Strip) (lo hi : ℕ) → PassesTest s p lo hi → IsAllLeft (Last s) lo hi p
 last_left s p lo hi passes =
     record { at = λ c e l h d b. left_behind e s p c d b (passes_left s p lo hi passes c l h) }
 
-pub placed_whole : (front : Front) (lo hi : ℕ) (p : Strip) → IsStrip p → IsAllLeft front lo hi p → IsPlaced front (Last p) lo hi p
+pub placed_whole : (front : Front) (lo hi : ℕ) (p : Strip) → IsStrip p → IsAllLeft front lo hi p → PlacesStrip front (Last p) lo hi p
 placed_whole front lo hi p s all =
     record {
       keeps = λ c e l h d b. behind_left e p c s (all.at c e l h d b);

@@ -1,14 +1,15 @@
-pub mod BestLemmas
-pub mod CleanLemmas
-pub mod FrontLemmas
-pub mod LodgeLemmas
-pub mod NameLemmas
-pub mod OverlapLemmas
-pub mod PairLemmas
-pub mod PointLemmas
-pub mod ShapeLemmas
-pub mod SpanLemmas
-pub mod StripLemmas
-pub mod SweepLemmas
-pub mod TileLemmas
-pub mod VerdictLemmas
+mod BestLemmas
+mod CleanLemmas
+mod FrontLemmas
+mod LodgeLemmas
+mod NameLemmas
+mod OverlapLemmas
+mod PairLemmas
+mod PointLemmas
+mod ShapeLemmas
+mod SpanLemmas
+mod StripLemmas
+mod SweepLemmas
+mod TileLemmas
+mod VerdictLemmas
+pub mod Public

@@ -12,7 +12,7 @@ use Rattle.st_shape.specs.Inside.{point}
 use Rattle.st_shape.specs.Meeting.{IsOnGrid, LiesOn, Ratio}
 use Rattle.eps_check.specs.declared.strip.Strip.{Strip}
 use Rattle.eps_check.specs.declared.names.Vertex.{Vertex}
-use Rattle.eps_check.specs.Names.{HasPoint, IsListed, IsInPlace}
+use Rattle.eps_check.specs.Names.{IsOnFigure, IsListed, IsInPlace}
 use Rattle.eps_check.specs.Shapes.{flat_strip, HasStrips, height, IsOnSheet}
 use Rattle.eps_check.specs.Strips.{IsInCell, IsPointOf}
 use Rattle.eps_check.specs.Views.{is_slanted}
@@ -102,7 +102,7 @@ own_numbers slanted v g r on =
     let w = weighted slanted (point_of v) g g r on in
     (w.x ∙ same_mean w.m w.i r.q (nat_abs v.x) w.same, w.h ∙ same_mean w.m w.i r.q (height slanted v) w.same)
 
-pub flat_on_vertex : (slanted : Bool) (e : Item) → IsOnSheet e → NoBar slanted e → (v : Point) → IsOnGrid v → HasPoint e v → Flat slanted e (nat_abs v.x) (height slanted v) 1
+pub flat_on_vertex : (slanted : Bool) (e : Item) → IsOnSheet e → NoBar slanted e → (v : Point) → IsOnGrid v → IsOnFigure e v → Flat slanted e (nat_abs v.x) (height slanted v) 1
 flat_on_vertex slanted (Dot name p) sheet bars v g h =
     let own = own_numbers slanted v g h.0 h.1.first in
     cancelled _ _ _ _ _ _ _ h.0.q h.1.divides own.0 own.1 (dot_flat slanted p sheet h.0 h.1.second)
@@ -176,7 +176,7 @@ shape_named (Rect name tail head low high) n h = h
 shape_named (Face number x from to) n h = h
 shape_named (Label name p text) n h = h
 
-pub shape_has : (e : Item) (v : Point) → HasPoint e v → ShapeHas (shape_of e) v
+pub shape_has : (e : Item) (v : Point) → IsOnFigure e v → ShapeHas (shape_of e) v
 shape_has (Dot name p) v h = h
 shape_has (Bar name y from to) v h = h
 shape_has (Line name tail head points) v h = h

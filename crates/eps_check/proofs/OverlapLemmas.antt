@@ -12,12 +12,12 @@ use Rattle.st_shape.specs.declared.picture.Form.{Form}
 use Rattle.st_shape.specs.Least.{IsLeastPair, NoPair}
 use Rattle.st_shape.specs.Meeting.{IsOnGrid, LiesOn, Ratio}
 use Rattle.st_shape.specs.Steps.{IsItemOnGrid}
-use Rattle.st_shape.proofs.Climbing.{on_grid_at}
+use Rattle.st_shape.proofs.Public.{on_grid_at}
 use Rattle.eps_check.specs.declared.spans.Span.{Span}
 use Rattle.eps_check.specs.declared.pairs.Pair.{Pair}
 use Rattle.eps_check.specs.Names.{IsSoundLine}
 use Rattle.eps_check.specs.Pairs.{AreSorted, IsBest}
-use Rattle.eps_check.specs.Spans.{AreSpanned, end_span, HaveOverlap, IsSpanned, IsWithin, key, low_of, vertex_span}
+use Rattle.eps_check.specs.Spans.{AreSpanned, end_span, HaveOverlap, IsSpanned, IsInSpan, name_key, low_of, vertex_span}
 use Rattle.eps_check.proofs.PairLemmas.{ShapePoint}
 use Rattle.eps_check.proofs.PointLemmas.{le_of, weighted}
 use Rattle.eps_check.proofs.SpanLemmas.{spanned_kept}
@@ -39,7 +39,7 @@ record Holds (spans : List Span) (k : ℕ) (p : Ratio) : Type 0 where
   high : nat_abs p.y ≤ p.q * span.high
 
 holds_on : (spans : List Span) (k : ℕ) (span : Span) → Contains spans span → span.item ≡ k → (s : Segment) → IsOnGrid s.a → IsOnGrid s.b →
-    IsWithin span s.a → IsWithin span s.b → (p : Ratio) → LiesOn s p → Holds spans k p
+    IsInSpan span s.a → IsInSpan span s.b → (p : Ratio) → LiesOn s p → Holds spans k p
 holds_on spans k span there of s ga gb a b p on =
     let w = weighted false s ga gb p on in
     record {
@@ -86,7 +86,7 @@ module _ (spans : List Span) (i j : ℕ) where
 
   of_names : (m n : ℤ) → m ≡ n → Contains spans (vertex_span i m) → Contains spans (vertex_span j n) → HaveOverlap spans i j
   of_names m n e h g =
-      let z = ap key e in
+      let z = ap name_key e in
       record {
         s = vertex_span i m;
         t = vertex_span j n;
@@ -94,8 +94,8 @@ module _ (spans : List Span) (i j : ℕ) where
         t_there = g;
         s_of = refl;
         t_of = refl;
-        s_low = same_or_less (key m) (key n) z;
-        t_low = same_or_less (key n) (key m) (sym z);
+        s_low = same_or_less (name_key m) (name_key n) z;
+        t_low = same_or_less (name_key n) (name_key m) (sym z);
       }
     where
       same_or_less : (a b : ℕ) → a ≡ b → a ≤ b + 1
@@ -103,7 +103,7 @@ module _ (spans : List Span) (i j : ℕ) where
 
   of_end : (m n : ℤ) → n ≡ m → Contains spans (vertex_span i m) → Contains spans (end_span j n) → HaveOverlap spans i j
   of_end m n e h g =
-      let z = ap key e in
+      let z = ap name_key e in
       record {
         s = vertex_span i m;
         t = end_span j n;
@@ -111,8 +111,8 @@ module _ (spans : List Span) (i j : ℕ) where
         t_there = g;
         s_of = refl;
         t_of = refl;
-        s_low = no_more (key m) (key n) z;
-        t_low = one_more (key n) (key m) z;
+        s_low = no_more (name_key m) (name_key n) z;
+        t_low = one_more (name_key n) (name_key m) z;
       }
     where
       no_more : (a b : ℕ) → b ≡ a → a ≤ b

@@ -8,7 +8,7 @@ use Rattle.st_shape.specs.declared.point.Segment.{Segment}
 use Rattle.st_shape.specs.declared.item.Item.{Item}
 use Rattle.st_shape.specs.Clean.{Shape, vertex, line, other, shape_of}
 use Rattle.eps_check.specs.declared.spans.Span.{Span}
-use Rattle.eps_check.specs.Spans.{AreSpanned, end_span, HasRange, IsSpanned, IsWithin, KeepsSpans, vertex_span}
+use Rattle.eps_check.specs.Spans.{AreSpanned, end_span, HasRange, IsSpanned, IsInSpan, KeepsSpans, vertex_span}
 
 pub keeps_trans : (a b c : List Span) → KeepsSpans a b → KeepsSpans b c → KeepsSpans a c
 keeps_trans a b c h k = record { each = λ s m. k.each s (h.each s m) }
@@ -35,7 +35,7 @@ vertex_spanned old mid new k n p s t s_is t_is first second figure a b = (
   subst (λ x. Contains new x) t_is (pushed mid new t second),
 )
   where
-    level : (v : Point) → v.y ≡ p.y → IsWithin s v
+    level : (v : Point) → v.y ≡ p.y → IsInSpan s v
     level v e =
         let y = ap nat_abs e in
         let low = ap (λ (x : Span). x.low) s_is in
@@ -43,7 +43,7 @@ vertex_spanned old mid new k n p s t s_is t_is first second figure a b = (
         record { low = omega (arith, y, low); high = omega (arith, y, high) }
 
 pub line_spanned : (old a b new : List Span) (k : ℕ) (tail head : ℤ) (points : List Point) (r s t : Span) → r.item ≡ k →
-    ((j : ℕ) (v : Point) → slice_get points j ≡ Some v → IsWithin r v) → s ≡ end_span k tail → t ≡ end_span k head →
+    ((j : ℕ) (v : Point) → slice_get points j ≡ Some v → IsInSpan r v) → s ≡ end_span k tail → t ≡ end_span k head →
     a ≡ old ++ r ∷ [] → b ≡ a ++ s ∷ [] → new ≡ b ++ t ∷ [] → IsSpanned new k (line tail head points)
 line_spanned old a b new k tail head points r s t of covers s_is t_is first second third =
     let keeps = keeps_push b new t third in (

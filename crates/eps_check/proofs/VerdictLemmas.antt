@@ -10,9 +10,7 @@ use Rattle.st_shape.specs.declared.picture.Form.TheVariants.{Visibility, Tessell
 use Rattle.st_shape.specs.Boxes.{IsTiled, IsTilingFault}
 use Rattle.st_shape.specs.Rules.{Drawing, FitsFrame, IsFrame, IsPicture}
 use Rattle.st_shape.specs.Verdict.{IsRightIn, IsWrongIn}
-use Rattle.st_shape.proofs.LeastLemmas.{IsFault-clean, IsFault-unique, IsTilingFault-unique}
-use Rattle.st_shape.proofs.SearchLemmas.{picture_fits}
-use Rattle.st_shape.proofs.Tiling.{NoPair-tiled, Sum-tiled}
+use Rattle.st_shape.proofs.Public.{IsFault-clean, IsFault-unique, IsTilingFault-unique, picture_fits, NoPair-tiled, Sum-tiled}
 use Rattle.eps_check.specs.Verdicts.{HasOneVerdict}
 
 same_in : (form : Form) (d : Drawing) (f g : Fault) → IsWrongIn form d f → IsWrongIn form d g → f ≡ g

@@ -1,12 +1,12 @@
 -- Fronts: the last strip at each height, of those that were placed.
 --   HasBehind front lo hi c e     the front over the cells from lo to hi has a strip in the cell c, and e is behind it
 --   IsAllLeft front lo hi p       whatever is behind the front lies left of p
---   IsPlaced old new lo hi p      the front is changed by placing p
+--   PlacesStrip old new lo hi p   the front is changed by placing p
 --   IsSplit old new               the front is changed so that what was behind it is so
 use Rattle.std.specs.Prelude.{ℕ, ◌+◌, ◌-◌, ◌/◌, ◌<◌, ◌≤◌}
 use Rattle.eps_check.specs.declared.front.Front.{Front, Free, Last, Halves'}
 use Rattle.eps_check.specs.declared.strip.Strip.{Strip}
-use Rattle.eps_check.specs.Strips.{HasCell, IsBehind, IsLeftIn}
+use Rattle.eps_check.specs.Strips.{CoversCell, IsBehind, IsLeftInCell}
 
 -- the middle of a range
 abbrev pub middle : ℕ → ℕ → ℕ
@@ -21,13 +21,13 @@ HasBehind (Halves' p below q above) lo hi c e =
 
 -- what is behind the front in a cell of the range lies left of p there
 pub record IsAllLeft (front : Front) (lo hi : ℕ) (p : Strip) : Type 0 where
-  pub at : (c : ℕ) (e : Strip) → lo ≤ c → c < hi → e.base < e.top → HasBehind front lo hi c e → IsLeftIn e p c
+  pub at : (c : ℕ) (e : Strip) → lo ≤ c → c < hi → e.base < e.top → HasBehind front lo hi c e → IsLeftInCell e p c
 
 -- placing p keeps what was behind the front, found it left of p at p's heights, and puts p behind the front there
-pub record IsPlaced (old new : Front) (lo hi : ℕ) (p : Strip) : Type 0 where
+pub record PlacesStrip (old new : Front) (lo hi : ℕ) (p : Strip) : Type 0 where
   pub keeps : (c : ℕ) (e : Strip) → lo ≤ c → c < hi → e.base < e.top → HasBehind old lo hi c e → HasBehind new lo hi c e
-  pub left : (c : ℕ) (e : Strip) → lo ≤ c → c < hi → e.base < e.top → HasCell p c → HasBehind old lo hi c e → IsLeftIn e p c
-  pub own : (c : ℕ) → lo ≤ c → c < hi → HasCell p c → HasBehind new lo hi c p
+  pub left : (c : ℕ) (e : Strip) → lo ≤ c → c < hi → e.base < e.top → CoversCell p c → HasBehind old lo hi c e → IsLeftInCell e p c
+  pub own : (c : ℕ) → lo ≤ c → c < hi → CoversCell p c → HasBehind new lo hi c p
 
 -- what was behind the old front is behind the new one
 pub record IsSplit (old new : Front) : Type 0 where

@@ -25,18 +25,18 @@ pub record AreDistinct (vertices : List Vertex) (m : ℕ) : Type 0 where
   pub pairs : (i j : ℕ) (s t : Vertex) → i < j → j < m → slice_get vertices i ≡ Some s → slice_get vertices j ≡ Some t → s.name <ℤ t.name
 
 -- the point lies on the figure of the vertex
-abbrev pub HasPoint : Item → Point → Type 0
-HasPoint (Dot name p) v = Meet (point_of v) (point_of p)
-HasPoint (Bar name y from to) v = Meet (point_of v) (record { a = record { x = from; y = y }; b = record { x = to; y = y } })
-HasPoint (Line name tail head points) v = ⊥
-HasPoint (Rect name tail head low high) v = ⊥
-HasPoint (Face number x from to) v = ⊥
-HasPoint (Label name p text) v = ⊥
+abbrev pub IsOnFigure : Item → Point → Type 0
+IsOnFigure (Dot name p) v = Meet (point_of v) (point_of p)
+IsOnFigure (Bar name y from to) v = Meet (point_of v) (record { a = record { x = from; y = y }; b = record { x = to; y = y } })
+IsOnFigure (Line name tail head points) v = ⊥
+IsOnFigure (Rect name tail head low high) v = ⊥
+IsOnFigure (Face number x from to) v = ⊥
+IsOnFigure (Label name p text) v = ⊥
 
 -- the item is a vertex named n, and the point lies on its figure
 pub record IsVertexAt (e : Item) (n : ℤ) (v : Point) : Type 0 where
   pub named : IsVertexNamed n e
-  pub on : HasPoint e v
+  pub on : IsOnFigure e v
 
 -- the point lies on the figure of a vertex named n
 pub record IsOnVertex (items : List Item) (n : ℤ) (v : Point) : Type 0 where

@@ -4,7 +4,7 @@
 --   IsReal items best   the best pair so far is a faulty pair, if there is one
 --   IsPairOf s t i j    i and j are the items of the two spans, in this order or in the other
 --   IsBetter            the best pair after one pair more
---   IsBeside            the best pair after the span at p was compared with those behind it
+--   IsBetterBeside      the best pair after the span at p was compared with those behind it
 --   IsBest              the best pair of all whose spans overlap
 use Rattle.std.specs.Prelude.{◌≡◌, ℕ, ◌<◌, ◌≤◌, ◌⊎◌, Option, Some, None, List, length, slice_get}
 use Rattle.st_shape.specs.declared.item.Item.{Item}
@@ -44,7 +44,7 @@ pub record IsBetter (items : List Item) (a b : ℕ) (old new : Option Pair) : Ty
   pub own : (i j : ℕ) → i < j → AreThese a b i j → FaultyPair items i j → Covers new i j
 
 -- the best pair after the span s at p was compared with those between p and q
-pub record IsBeside (items : List Item) (spans : List Span) (p q : ℕ) (old new : Option Pair) : Type 0 where
+pub record IsBetterBeside (items : List Item) (spans : List Span) (p q : ℕ) (old new : Option Pair) : Type 0 where
   pub real : IsReal items old → IsReal items new
   pub keeps : (i j : ℕ) → Covers old i j → Covers new i j
   pub own : (r : ℕ) (s t : Span) → p < r → r < q → slice_get spans p ≡ Some s → slice_get spans r ≡ Some t → t.low ≤ s.high →

@@ -1,7 +1,7 @@
 -- Spans: what two items of a faulty pair have in common, as ranges of numbers that overlap.
---   key n                   the number of a name, above all heights
+--   name_key n              the number of a name, above all heights
 --   vertex_span, end_span   the spans of a vertex by its name, and of a line by the name of an end
---   IsWithin s v            the height of the point is in the span
+--   IsInSpan s v            the height of the point is in the span
 --   IsSpanned spans k a     the spans of the item at k are there, where a is what the rules see of it
 --   HaveOverlap spans i j   spans of the items at i and j overlap
 use Rattle.std.specs.Prelude.{◌≡◌, ℕ, ◌+◌, ◌*◌, ◌%◌, ◌<◌, ◌≤◌, ◌⊎◌, ℤ, nat_abs, List, slice_get, Some, Contains}
@@ -11,20 +11,20 @@ use Rattle.st_shape.specs.Clean.{Shape, vertex, line, other, shape_of}
 use Rattle.eps_check.specs.declared.spans.Span.{Span}
 
 -- the number of a name
-abbrev pub key : ℤ → ℕ
-key n = 4611686018427387904 + 2 * (nat_abs n % 2305843009213693952)
+abbrev pub name_key : ℤ → ℕ
+name_key n = 4611686018427387904 + 2 * (nat_abs n % 2305843009213693952)
 
 abbrev pub vertex_span : ℕ → ℤ → Span
-vertex_span k n = record { low = key n; high = key n + 1; item = k }
+vertex_span k n = record { low = name_key n; high = name_key n + 1; item = k }
 
 abbrev pub end_span : ℕ → ℤ → Span
-end_span k n = record { low = key n + 1; high = key n; item = k }
+end_span k n = record { low = name_key n + 1; high = name_key n; item = k }
 
 abbrev pub low_of : Span → ℕ
 low_of s = s.low
 
 -- the height of the point is in the span
-pub record IsWithin (s : Span) (v : Point) : Type 0 where
+pub record IsInSpan (s : Span) (v : Point) : Type 0 where
   pub low : s.low ≤ nat_abs v.y
   pub high : nat_abs v.y ≤ s.high
 
@@ -37,7 +37,7 @@ pub record HasRange (spans : List Span) (k : ℕ) (IsPoint : Point → Type 0) :
   pub span : Span
   pub there : Contains spans span
   pub of : span.item ≡ k
-  pub covers : (v : Point) → IsPoint v → IsWithin span v
+  pub covers : (v : Point) → IsPoint v → IsInSpan span v
 
 -- the point is one of the line
 abbrev pub IsPointIn : List Point → Point → Type 0

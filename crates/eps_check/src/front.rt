@@ -1,7 +1,7 @@
 //! The last strip at each height, of those that were placed.
 
 ghost use Rattle.std.specs.Prelude.{◌≡◌, ◌≤◌, IsTrue, IfOk, OnOk};
-ghost use Rattle.eps_check.specs.Fronts.{HasBehind, IsAllLeft, IsPlaced, IsSplit, middle};
+ghost use Rattle.eps_check.specs.Fronts.{HasBehind, IsAllLeft, PlacesStrip, IsSplit, middle};
 ghost use Rattle.eps_check.specs.Strips.{IsStrip};
 
 use crate::strip::{Strip, is_left};
@@ -73,7 +73,7 @@ pub fn place(
     p: &Strip,
 ) -> Result<bool, NoMemory>
     requires { IsStrip p.now }
-    ensures { IfOk result (λ placed. IsTrue placed → IsPlaced front.old front.new lo hi p.now) }
+    ensures { IfOk result (λ placed. IsTrue placed → PlacesStrip front.old front.new lo hi p.now) }
 {
     if p.from <= lo && hi <= p.to {
         if is_all_left(front, lo, hi, p) {

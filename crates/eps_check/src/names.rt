@@ -5,7 +5,7 @@
 ghost use Rattle.std.specs.Prelude.{◌≡◌, ◌≤◌, ◌<◌, ◌<ℤ◌, ◌^◌, IsTrue, length, Some, All};
 ghost use Rattle.st_shape.specs.Clean.{IsVertexNamed};
 ghost use Rattle.st_shape.specs.Meeting.{IsOnGrid};
-ghost use Rattle.eps_check.specs.Names.{AreDistinct, AreInPlace, HasPoint, IsInPlace, IsLineInPlace, IsListed, IsOnVertex, IsVertexAt};
+ghost use Rattle.eps_check.specs.Names.{AreDistinct, AreInPlace, IsOnFigure, IsInPlace, IsLineInPlace, IsListed, IsOnVertex, IsVertexAt};
 ghost use Rattle.eps_check.specs.Shapes.{IsOnSheet};
 
 use st_ids::NoMemory;

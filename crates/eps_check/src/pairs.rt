@@ -2,7 +2,7 @@
 
 ghost use Rattle.std.specs.Prelude.{◌≡◌, ◌≤◌, ◌<◌, ◌^◌, ◌↔◌, IsTrue, All, length};
 ghost use Rattle.st_shape.specs.Steps.{IsOrdinary};
-ghost use Rattle.eps_check.specs.Pairs.{AreSorted, AreThese, Covers, IsBeside, IsBest, IsBetter, IsSearched, NotLater};
+ghost use Rattle.eps_check.specs.Pairs.{AreSorted, AreThese, Covers, IsBetterBeside, IsBest, IsBetter, IsSearched, NotLater};
 
 use crate::spans::Span;
 use st_shape::{Item, is_faulty_pair};
@@ -63,7 +63,7 @@ fn best_beside(items: &[Item], spans: &[Span], p: usize, best: Option<Pair>) -> 
     requires ordinary { All (λ e. IsOrdinary e) items.now }
     requires sorted { AreSorted spans.now }
     requires within { p < length spans.now }
-    ensures { IsBeside items.now spans.now p (length spans.now) best result }
+    ensures { IsBetterBeside items.now spans.now p (length spans.now) best result }
 {
     let s = spans[p];
     let mut found = best;

@@ -6,7 +6,7 @@ ghost use Rattle.st_shape.specs.declared.point.Point.{Point};
 ghost use Rattle.st_shape.specs.declared.point.Segment.{Segment};
 ghost use Rattle.st_shape.specs.Clean.{line, shape_of, vertex};
 ghost use Rattle.eps_check.specs.Pairs.{AreSorted};
-ghost use Rattle.eps_check.specs.Spans.{AreSpanned, end_span, IsSpanned, IsWithin, KeepsSpans, key, low_of, vertex_span};
+ghost use Rattle.eps_check.specs.Spans.{AreSpanned, end_span, IsSpanned, IsInSpan, KeepsSpans, name_key, low_of, vertex_span};
 
 use crate::names::Name;
 use st_ids::NoMemory;
@@ -23,7 +23,7 @@ pub struct Span {
 
 /// The number of a name, above all heights. Few names share one.
 fn key_of(name: Name) -> u64
-    ensures value { result ≡ key name.number }
+    ensures value { result ≡ name_key name.number }
     ensures most { result ≤ 9223372036854775806 }
 {
     4611686018427387904 + 2 * (name.number.unsigned_abs() % 2305843009213693952)
@@ -75,7 +75,7 @@ fn level_span(k: u32, p: Point) -> Span
 /// The span of a line by its heights.
 fn range_of(k: u32, points: &[Point]) -> Span
     ensures item { result.item ≡ k }
-    ensures covers { (j : ℕ) (v : Point) → slice_get points.now j ≡ Some v → IsWithin result v }
+    ensures covers { (j : ℕ) (v : Point) → slice_get points.now j ≡ Some v → IsInSpan result v }
 {
     let mut low = u64::MAX;
     let mut high = 0;

@@ -1,7 +1,7 @@
 //! Strips: what lies between two straight lines over a range of heights, and when one strip is left of another.
 
 ghost use Rattle.std.specs.Prelude.{◌≡◌, ◌+◌, ◌-◌, ◌*◌, ◌<◌, ◌≤◌, ◌↔◌, IsTrue};
-ghost use Rattle.eps_check.specs.Strips.{depth, left_at, Passes, right_at};
+ghost use Rattle.eps_check.specs.Strips.{depth, left_at, PassesTest, right_at};
 
 /// The points between two straight lines, in some cells of height.
 ///
@@ -33,7 +33,7 @@ fn place_at(base: u32, top: u32, low: u32, high: u32, y: u32) -> u64
 
 /// Whether the strip `s` lies left of the strip `t` in each cell from `lo` to `hi`, without `hi`.
 pub fn is_left(s: &Strip, t: &Strip, lo: u32, hi: u32) -> bool
-    ensures { IsTrue result → Passes s.now t.now lo hi }
+    ensures { IsTrue result → PassesTest s.now t.now lo hi }
 {
     let a = lo / 2;
     let b = hi / 2;

@@ -2,7 +2,7 @@
 
 ghost use Rattle.std.specs.Prelude.{IsTrue, IfOk};
 ghost use Rattle.eps_check.specs.Strips.{IsStrip};
-ghost use Rattle.eps_check.specs.Sweeps.{AllApart, AreInOrder};
+ghost use Rattle.eps_check.specs.Sweeps.{AllApart, AreStripsApart};
 
 use crate::front::{Front, place};
 use crate::strip::Strip;
@@ -18,7 +18,7 @@ fn is_strip(s: &Strip) -> bool
 
 /// Whether each strip can be placed right of those before it, where all cells are below `cells`.
 fn are_in_order(alloc: Global, strips: &[Strip], cells: u32) -> Result<bool, NoMemory>
-    ensures { IfOk result (λ found. IsTrue found → AreInOrder strips.now) }
+    ensures { IfOk result (λ found. IsTrue found → AreStripsApart strips.now) }
 {
     let mut front = Front::Free;
     for k in 0..strips.len() {

@@ -13,7 +13,7 @@ use Rattle.st_shape.specs.Rules.{HasNames, IsFrame, IsItem, IsPicture, Drawing}
 use Rattle.eps_core.specs.Text.{name_line, mark_line, front_lines, item_lines, lines, ended, text}
 use Rattle.eps_core.specs.declared.fault.EpsFault.TheVariants.{BadLine}
 use Rattle.eps_core.specs.Decoding.{line_from, after_line, frame_from, form_from}
-use Rattle.eps_core.specs.Meaning.{IsPlain, IsText, IsFirstBad}
+use Rattle.eps_core.specs.Meaning.{IsPlain, IsPictureText, IsFirstBad}
 use Rattle.eps_core.specs.Reading.{HasRead, MissesLine, MarksNone, NamesNone, IsFirstRefused, IsSecondRefused}
 use Rattle.eps_core.proofs.Cuts.{line_front, after_front}
 use Rattle.eps_core.proofs.FirstBad.{Begins, first_bad}
@@ -293,5 +293,5 @@ same_line bytes k b line e =
     let same : k ≡ line = cc in
     subst (λ n. IsFirstBad bytes n) same b
 
-pub no_text_of : (bytes : List ℕ) (k : ℕ) → IsFirstBad bytes k → IsText bytes → ⊥
+pub no_text_of : (bytes : List ℕ) (k : ℕ) → IsFirstBad bytes k → IsPictureText bytes → ⊥
 no_text_of bytes k b t = b.nothing t.picture t.rules t.is

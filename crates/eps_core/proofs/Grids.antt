@@ -9,13 +9,13 @@ use Rattle.st_shape.specs.declared.item.Item.{Item}
 use Rattle.st_shape.specs.declared.item.Item.TheVariants.{Dot, Bar, Line, Rect, Face, Label}
 use Rattle.st_shape.specs.Inside.{IsInside}
 use Rattle.st_shape.specs.Rules.{FitsFrame, IsFrame, IsItem, Drawing}
-use Rattle.eps_core.specs.Grid.{corner, IsOnGrid, AreOnGrid}
+use Rattle.eps_core.specs.Grid.{corner, IsInLargestFrame, AreInLargestFrame}
 use Rattle.eps_core.specs.Text.{ended, item_lines, name_line, mark_line, front_lines, text}
 
-inside_corner : (f p : Point) → IsFrame f → IsInside f p → IsOnGrid p
+inside_corner : (f p : Point) → IsFrame f → IsInside f p → IsInLargestFrame p
 inside_corner f p h i = record { left = i.left; right = omega (arith, ints, i.right, h.right); low = i.low; high = omega (arith, ints, i.high, h.high) }
 
-all_on_grid : (f : Point) (ps : List Point) → IsFrame f → AllByRecursion (IsInside f) ps → AreOnGrid ps
+all_on_grid : (f : Point) (ps : List Point) → IsFrame f → AllByRecursion (IsInside f) ps → AreInLargestFrame ps
 all_on_grid f [] h i = tt
 all_on_grid f (p ∷ ps) h i = (inside_corner f p h i.0, all_on_grid f ps h i.1)
 

@@ -1,14 +1,15 @@
-pub mod BadLines
-pub mod Bare
-pub mod Cuts
-pub mod Decodes
-pub mod Endings
-pub mod FirstBad
-pub mod Grids
-pub mod Items
-pub mod Names
-pub mod Numbers
-pub mod Pictures
-pub mod Plain
-pub mod Readings
-pub mod Short
+mod BadLines
+mod Bare
+mod Cuts
+mod Decodes
+mod Endings
+mod FirstBad
+mod Grids
+mod Items
+mod Names
+mod Numbers
+mod Pictures
+mod Plain
+mod Readings
+mod Short
+pub mod Public

@@ -7,8 +7,8 @@ use Rattle.st_shape.specs.declared.item.Item.{Item}
 use Rattle.st_shape.specs.declared.item.Item.TheVariants.{Dot, Bar, Line, Rect, Face, Label}
 use Rattle.st_shape.specs.Rules.{FitsFrame, HasNames, IsFrame, IsItem}
 use Rattle.eps_core.specs.Meaning.{IsPlain}
-use Rattle.eps_core.specs.Text.{spaced, name_line, mark_line}
-use Rattle.eps_core.specs.Decoding.{behind, place_of, past_place, past_step, bar, ends, label_text, dot_or_bar, line_or_box, two_or_more, three_or_more, four_or_box, decoded}
+use Rattle.eps_core.specs.Text.{spaced_words, name_line, mark_line}
+use Rattle.eps_core.specs.Decoding.{behind_word, decoded_point, past_place, past_step, decoded_bar, ends, decoded_label, dot_or_bar, line_or_box, two_or_more, three_or_more, four_or_box, decoded}
 use Rattle.eps_core.specs.Reading.{NamesNone, MarksNone, IsFirstRefused}
 use Rattle.eps_core.proofs.Cuts.{plain_no_line}
 use Rattle.eps_core.proofs.Endings.{line_one}
@@ -20,25 +20,25 @@ pick : (b : Bool) (x y : Item) (l : List ℕ) → name_line x ≡ l → name_lin
 pick true x y l p q = p
 pick false x y l p q = q
 
-dot_name : (n : ℤ) (s : List ℕ) → name_line (dot_or_bar n s) ≡ spaced (codes "%v") (signed_decimal n ∷ [])
+dot_name : (n : ℤ) (s : List ℕ) → name_line (dot_or_bar n s) ≡ spaced_words (codes "%v") (signed_decimal n ∷ [])
 unfolding dot_or_bar
-dot_name n s = pick (slice_index (past_place s) 0 == 52) (Dot n (place_of 36 s)) (bar n (place_of 36 s) (place_of 36 (past_step s))) _ refl refl
+dot_name n s = pick (slice_index (past_place s) 0 == 52) (Dot n (decoded_point 36 s)) (decoded_bar n (decoded_point 36 s) (decoded_point 36 (past_step s))) _ refl refl
 
-four_name : (n t h : ℤ) (a b c : Point) (s : List ℕ) → name_line (four_or_box n t h a b c s) ≡ spaced (codes "%e") (signed_decimal n ∷ signed_decimal t ∷ signed_decimal h ∷ [])
+four_name : (n t h : ℤ) (a b c : Point) (s : List ℕ) → name_line (four_or_box n t h a b c s) ≡ spaced_words (codes "%e") (signed_decimal n ∷ signed_decimal t ∷ signed_decimal h ∷ [])
 unfolding four_or_box
-four_name n t h a b c s = pick (ends (past_step s)) (Line n t h (a ∷ b ∷ c ∷ place_of 36 s ∷ [])) (Rect n t h a c) _ refl refl
+four_name n t h a b c s = pick (ends (past_step s)) (Line n t h (a ∷ b ∷ c ∷ decoded_point 36 s ∷ [])) (Rect n t h a c) _ refl refl
 
-three_name : (n t h : ℤ) (a b : Point) (s : List ℕ) → name_line (three_or_more n t h a b s) ≡ spaced (codes "%e") (signed_decimal n ∷ signed_decimal t ∷ signed_decimal h ∷ [])
+three_name : (n t h : ℤ) (a b : Point) (s : List ℕ) → name_line (three_or_more n t h a b s) ≡ spaced_words (codes "%e") (signed_decimal n ∷ signed_decimal t ∷ signed_decimal h ∷ [])
 unfolding three_or_more
-three_name n t h a b s = pick (ends (past_step s)) (Line n t h (a ∷ b ∷ place_of 36 s ∷ [])) (four_or_box n t h a b (place_of 36 s) (past_step s)) _ refl (four_name n t h a b (place_of 36 s) (past_step s))
+three_name n t h a b s = pick (ends (past_step s)) (Line n t h (a ∷ b ∷ decoded_point 36 s ∷ [])) (four_or_box n t h a b (decoded_point 36 s) (past_step s)) _ refl (four_name n t h a b (decoded_point 36 s) (past_step s))
 
-two_name : (n t h : ℤ) (a : Point) (s : List ℕ) → name_line (two_or_more n t h a s) ≡ spaced (codes "%e") (signed_decimal n ∷ signed_decimal t ∷ signed_decimal h ∷ [])
+two_name : (n t h : ℤ) (a : Point) (s : List ℕ) → name_line (two_or_more n t h a s) ≡ spaced_words (codes "%e") (signed_decimal n ∷ signed_decimal t ∷ signed_decimal h ∷ [])
 unfolding two_or_more
-two_name n t h a s = pick (ends (past_step s)) (Line n t h (a ∷ place_of 36 s ∷ [])) (three_or_more n t h a (place_of 36 s) (past_step s)) _ refl (three_name n t h a (place_of 36 s) (past_step s))
+two_name n t h a s = pick (ends (past_step s)) (Line n t h (a ∷ decoded_point 36 s ∷ [])) (three_or_more n t h a (decoded_point 36 s) (past_step s)) _ refl (three_name n t h a (decoded_point 36 s) (past_step s))
 
-edge_name : (n t h : ℤ) (s : List ℕ) → name_line (line_or_box n t h s) ≡ spaced (codes "%e") (signed_decimal n ∷ signed_decimal t ∷ signed_decimal h ∷ [])
+edge_name : (n t h : ℤ) (s : List ℕ) → name_line (line_or_box n t h s) ≡ spaced_words (codes "%e") (signed_decimal n ∷ signed_decimal t ∷ signed_decimal h ∷ [])
 unfolding line_or_box
-edge_name n t h s = two_name n t h (place_of 36 s) (past_step s)
+edge_name n t h s = two_name n t h (decoded_point 36 s) (past_step s)
 
 mark_plain : (f : Point) (it : Item) → IsFrame f → IsItem f it → IsPlain (mark_line it)
 mark_plain f it h i = (items_plain f (it ∷ []) h (i, tt)).1.0
@@ -46,17 +46,17 @@ mark_plain f it h i = (items_plain f (it ∷ []) h (i, tt)).1.0
 -- an item's first line is decoded to some item that has it, whatever the second line
 pub name_back : (it : Item) (mark : List ℕ) → HasNames it → (x : Item) × (decoded (name_line it) mark ≡ Some x) × (name_line x ≡ name_line it)
 unfolding decoded
-name_back (Dot n p) mark h = (dot_or_bar n (behind mark), ap (λ (z : ℤ). Some (dot_or_bar z (behind mark))) (one_name 118 n (omega arith, omega arith) h), dot_name n (behind mark))
-name_back (Bar n y from to) mark h = (dot_or_bar n (behind mark), ap (λ (z : ℤ). Some (dot_or_bar z (behind mark))) (one_name 118 n (omega arith, omega arith) h), dot_name n (behind mark))
-name_back (Line n t k points) mark h = (line_or_box n t k (behind mark), edge_decoded n t k mark h.0 h.1 h.2, edge_name n t k (behind mark))
-name_back (Rect n t k low high) mark h = (line_or_box n t k (behind mark), edge_decoded n t k mark h.0 h.1 h.2, edge_name n t k (behind mark))
+name_back (Dot n p) mark h = (dot_or_bar n (behind_word mark), ap (λ (z : ℤ). Some (dot_or_bar z (behind_word mark))) (one_name 118 n (omega arith, omega arith) h), dot_name n (behind_word mark))
+name_back (Bar n y from to) mark h = (dot_or_bar n (behind_word mark), ap (λ (z : ℤ). Some (dot_or_bar z (behind_word mark))) (one_name 118 n (omega arith, omega arith) h), dot_name n (behind_word mark))
+name_back (Line n t k points) mark h = (line_or_box n t k (behind_word mark), edge_decoded n t k mark h.0 h.1 h.2, edge_name n t k (behind_word mark))
+name_back (Rect n t k low high) mark h = (line_or_box n t k (behind_word mark), edge_decoded n t k mark h.0 h.1 h.2, edge_name n t k (behind_word mark))
 name_back (Face n x from to) mark h = (
-  Face n (place_of 36 (behind mark)).x (place_of 36 (behind mark)).y (place_of 36 (past_step (behind mark))).y,
-  ap (λ (z : ℕ). Some (Face z (place_of 36 (behind mark)).x (place_of 36 (behind mark)).y (place_of 36 (past_step (behind mark))).y)) (face_number n h),
+  Face n (decoded_point 36 (behind_word mark)).x (decoded_point 36 (behind_word mark)).y (decoded_point 36 (past_step (behind_word mark))).y,
+  ap (λ (z : ℕ). Some (Face z (decoded_point 36 (behind_word mark)).x (decoded_point 36 (behind_word mark)).y (decoded_point 36 (past_step (behind_word mark))).y)) (face_number n h),
   refl,
 )
 name_back (Label n p text) mark h =
-    (Label n (place_of 42 mark) (label_text (past_step mark)), ap (λ (z : ℤ). Some (Label z (place_of 42 mark) (label_text (past_step mark)))) (one_name 108 n (omega arith, omega arith) h), refl)
+    (Label n (decoded_point 42 mark) (decoded_label (past_step mark)), ap (λ (z : ℤ). Some (Label z (decoded_point 42 mark) (decoded_label (past_step mark)))) (one_name 108 n (omega arith, omega arith) h), refl)
 
 pub none_named : (name mark : List ℕ) → decoded name mark ≡ None → NamesNone name
 none_named name mark e = λ it h is.

@@ -14,8 +14,8 @@ use Rattle.st_shape.specs.declared.item.Item.TheVariants.{Dot, Bar, Line, Rect, 
 use Rattle.st_shape.specs.declared.picture.Form.{Form}
 use Rattle.st_shape.specs.declared.picture.Form.TheVariants.{Visibility, Tessellation, Constrained, Polyline, Dominance}
 use Rattle.st_shape.specs.Rules.{FitsFrame, HasNames, IsFrame, IsItem, IsPicture, Drawing}
-use Rattle.eps_core.specs.Grid.{corner, IsOnGrid, AreOnGrid}
-use Rattle.eps_core.specs.Text.{at, beside, spaced, escaped, path, line_words, name_line, mark_line, item_lines, front_lines, form_name, lines}
+use Rattle.eps_core.specs.Grid.{corner, IsInLargestFrame, AreInLargestFrame}
+use Rattle.eps_core.specs.Text.{coordinate, beside, spaced_words, escaped, path, line_words, name_line, mark_line, item_lines, front_lines, form_name, lines}
 use Rattle.eps_core.specs.Meaning.{IsShort}
 use Rattle.eps_core.proofs.Decodes.{put}
 use Rattle.eps_core.proofs.Grids.{fits_corner}
@@ -25,12 +25,12 @@ abbrev pub room : List (List ℕ) → ℕ
 room [] = 0
 room (w ∷ ws) = length w + 1 + room ws
 
-length-spaced : (l : List ℕ) (ws : List (List ℕ)) → length (spaced l ws) ≡ length l + room ws
-length-spaced l [] = omega arith
-length-spaced l (w ∷ ws) = omega (arith, length-spaced (l ++ 32 ∷ w) ws, length-append l (32 ∷ w))
+length-spaced_words : (l : List ℕ) (ws : List (List ℕ)) → length (spaced_words l ws) ≡ length l + room ws
+length-spaced_words l [] = omega arith
+length-spaced_words l (w ∷ ws) = omega (arith, length-spaced_words (l ++ 32 ∷ w) ws, length-append l (32 ∷ w))
 
-short_spaced : (l : List ℕ) (ws : List (List ℕ)) → length l + room ws ≤ 255 → IsShort (spaced l ws)
-short_spaced l ws h = omega (arith, length-spaced l ws, h)
+short_spaced : (l : List ℕ) (ws : List (List ℕ)) → length l + room ws ≤ 255 → IsShort (spaced_words l ws)
+short_spaced l ws h = omega (arith, length-spaced_words l ws, h)
 
 name_length : (z : ℤ) → FitsSigned w64 z → length (signed_decimal z) ≤ 20
 name_length (pos n) h = length_signed_le 19 (pos n) (omega (arith, h.sfits)) (omega (arith, h.sfits))
@@ -42,10 +42,10 @@ put_length m (pos n) s lo hi =
     length_signed_le 10 (pos (24 * n + m)) (omega (arith, small, s)) (omega (arith, small, s))
 put_length m (negsuc n) s lo hi = absurd (omega (arith, ints, lo))
 
-x_length : (m : ℕ) (p : Point) → m ≤ 100 → IsOnGrid p → length (put m p.x) ≤ 11
+x_length : (m : ℕ) (p : Point) → m ≤ 100 → IsInLargestFrame p → length (put m p.x) ≤ 11
 x_length m p s h = put_length m p.x s h.left h.right
 
-y_length : (m : ℕ) (p : Point) → m ≤ 100 → IsOnGrid p → length (put m p.y) ≤ 11
+y_length : (m : ℕ) (p : Point) → m ≤ 100 → IsInLargestFrame p → length (put m p.y) ≤ 11
 y_length m p s h = put_length m p.y s h.low h.high
 
 name_short : (it : Item) → HasNames it → IsShort (name_line it)
@@ -56,11 +56,11 @@ name_short (Rect n t k low high) h = short_spaced (codes "%e") (signed_decimal n
 name_short (Face n x from to) h = short_spaced (codes "%f") (decimal n ∷ []) (omega (arith, length_signed_le 19 (pos n) (omega (arith, h)) (omega (arith, h))))
 name_short (Label n p text) h = short_spaced (codes "%l") (signed_decimal n ∷ []) (omega (arith, name_length n h))
 
-path_room : (ps : List Point) → AreOnGrid ps → room (path ps) ≤ 31 * length ps + 7
+path_room : (ps : List Point) → AreInLargestFrame ps → room (path ps) ≤ 31 * length ps + 7
 path_room [] h = omega arith
 path_room (p ∷ ps) h = omega (arith, x_length 36 p (omega arith) h.0, y_length 36 p (omega arith) h.0, path_room ps h.1)
 
-words_room : (ps : List Point) → AreOnGrid ps → room (line_words ps) ≤ 31 * length ps + 7
+words_room : (ps : List Point) → AreInLargestFrame ps → room (line_words ps) ≤ 31 * length ps + 7
 words_room [] h = omega arith
 words_room (p ∷ ps) h = omega (arith, x_length 36 p (omega arith) h.0, y_length 36 p (omega arith) h.0, path_room ps h.1)
 
@@ -72,20 +72,20 @@ escaped_length : (t : List ℕ) → length (escaped t) ≤ 2 * length t
 escaped_length [] = omega arith
 escaped_length (b ∷ bs) = escaped_case b bs (escaped bs) (b == 40 || b == 41 || b == 92) (escaped_length bs)
 
-two_points : (a b : Point) → IsOnGrid a → IsOnGrid b
-    → IsShort (spaced (codes "newpath") (at a.x ∷ at a.y ∷ codes "moveto" ∷ at b.x ∷ at b.y ∷ codes "lineto" ∷ codes "stroke" ∷ []))
+two_points : (a b : Point) → IsInLargestFrame a → IsInLargestFrame b
+    → IsShort (spaced_words (codes "newpath") (coordinate a.x ∷ coordinate a.y ∷ codes "moveto" ∷ coordinate b.x ∷ coordinate b.y ∷ codes "lineto" ∷ codes "stroke" ∷ []))
 two_points a b h i =
-    short_spaced (codes "newpath") (at a.x ∷ at a.y ∷ codes "moveto" ∷ at b.x ∷ at b.y ∷ codes "lineto" ∷ codes "stroke" ∷ [])
+    short_spaced (codes "newpath") (coordinate a.x ∷ coordinate a.y ∷ codes "moveto" ∷ coordinate b.x ∷ coordinate b.y ∷ codes "lineto" ∷ codes "stroke" ∷ [])
     (omega (arith, x_length 36 a (omega arith) h, y_length 36 a (omega arith) h, x_length 36 b (omega arith) i, y_length 36 b (omega arith) i))
 
 mark_short : (it : Item) → FitsFrame corner it → IsShort (mark_line it)
 mark_short (Dot n p) h =
-    short_spaced (codes "newpath") (at p.x ∷ at p.y ∷ codes "4" ∷ codes "0" ∷ codes "360" ∷ codes "arc" ∷ codes "fill" ∷ [])
+    short_spaced (codes "newpath") (coordinate p.x ∷ coordinate p.y ∷ codes "4" ∷ codes "0" ∷ codes "360" ∷ codes "arc" ∷ codes "fill" ∷ [])
     (omega (arith, x_length 36 p (omega arith) h, y_length 36 p (omega arith) h))
 mark_short (Bar n y from to) h = two_points (record { x = from; y = y }) (record { x = to; y = y }) h.0 h.1
 mark_short (Line n t k points) h = short_spaced (codes "newpath") (line_words points) (omega (arith, words_room points h.2, h.1))
 mark_short (Rect n t k low high) h =
-    short_spaced (codes "newpath") (at low.x ∷ at low.y ∷ codes "moveto" ∷ at high.x ∷ at low.y ∷ codes "lineto" ∷ at high.x ∷ at high.y ∷ codes "lineto" ∷ at low.x ∷ at high.y ∷ codes "lineto" ∷ codes "closepath" ∷ codes "stroke" ∷ [])
+    short_spaced (codes "newpath") (coordinate low.x ∷ coordinate low.y ∷ codes "moveto" ∷ coordinate high.x ∷ coordinate low.y ∷ codes "lineto" ∷ coordinate high.x ∷ coordinate high.y ∷ codes "lineto" ∷ coordinate low.x ∷ coordinate high.y ∷ codes "lineto" ∷ codes "closepath" ∷ codes "stroke" ∷ [])
     (omega (arith, x_length 36 low (omega arith) h.0, y_length 36 low (omega arith) h.0, x_length 36 high (omega arith) h.1, y_length 36 high (omega arith) h.1))
 mark_short (Face n x from to) h = two_points (record { x = x; y = from }) (record { x = x; y = to }) h.0 h.1
 mark_short (Label n p text) h =
@@ -103,7 +103,7 @@ items_short : (f : Point) (its : List Item) → IsFrame f → AllByRecursion (Is
 items_short f [] h i = tt
 items_short f (it ∷ its) h i = (name_short it i.0.0, (mark_short it (fits_corner f it h i.0.1), items_short f its h i.1))
 
-title_short : (f : Form) → IsShort (spaced (codes "%%Title:") (form_name f ∷ []))
+title_short : (f : Form) → IsShort (spaced_words (codes "%%Title:") (form_name f ∷ []))
 title_short Visibility = omega arith
 title_short Tessellation = omega arith
 title_short Constrained = omega arith

@@ -1,7 +1,7 @@
 -- What bytes tell of a picture, or which line of them is the first that no picture's text has there.
 --   IsPlain line            no line feed is in the line
 --   IsShort line            the line has at most 255 bytes
---   IsText bytes            the bytes are some picture's text
+--   IsPictureText bytes     the bytes are some picture's text
 --   BeginsWith bytes lines  the bytes are these lines, each with its line feed, and maybe more
 --   IsBegun bytes k         the bytes have k lines, and some picture's text begins with them
 --   IsFirstBad bytes k      the bytes are no picture's text, and line k, from 1, is the first bad one
@@ -22,7 +22,7 @@ abbrev pub IsShort : List ℕ → Type 0
 IsShort line = length line ≤ 255
 
 -- the bytes are the text of some picture
-pub record IsText (bytes : List ℕ) : Type 0 where
+pub record IsPictureText (bytes : List ℕ) : Type 0 where
   pub picture : Drawing
   pub rules : IsPicture picture
   pub is : bytes ≡ text picture

@@ -2,7 +2,7 @@
 //!
 //! Nothing is checked here: where the lines are no item's, any item comes out, or none. The reader compares afterwards.
 ghost use Rattle.std.specs.Prelude.{◌≡◌, ◌==◌, ◌<◌, ◌++◌, IfOk, OnOk, slice_index, false};
-ghost use Rattle.eps_core.specs.Decoding.{dot_or_bar as dot_or_bar_of, line_or_box as line_or_box_of, label_text as label_text_of, decoded, post, bar, ends as ends_of, unescaped_from};
+ghost use Rattle.eps_core.specs.Decoding.{dot_or_bar as dot_or_bar_of, line_or_box as line_or_box_of, decoded_label, decoded, decoded_post, decoded_bar, ends as ends_of, unescaped_from};
 
 use crate::words::{behind, number, past_step, place, small_number, word};
 use st_ids::{NoMemory, Text};
@@ -19,7 +19,7 @@ fn has_byte(s: &[u8], n: usize, b: u8) -> bool
 
 // The bar at the height of `a`.
 fn bar_between(name: i64, a: Point, b: Point) -> Item
-    ensures { result ≡ bar name a b }
+    ensures { result ≡ decoded_bar name a b }
 {
     Item::Bar {
         name,
@@ -31,7 +31,7 @@ fn bar_between(name: i64, a: Point, b: Point) -> Item
 
 // The upright line of a face, at the place of `a`.
 fn post_between(number: u32, a: Point, b: Point) -> Item
-    ensures { result ≡ post number a b }
+    ensures { result ≡ decoded_post number a b }
 {
     Item::Face {
         number,
@@ -126,9 +126,9 @@ fn unescape(text: &mut Text, s: &[u8]) -> Result<(), NoMemory>
 }
 
 // The text between `(` and `) show`.
-#[tactic(auto, unfolding(crate::specs::Decoding::label_text))]
+#[tactic(auto, unfolding(crate::specs::Decoding::decoded_label))]
 fn label_text(alloc: Global, t: &[u8]) -> Result<Text, NoMemory>
-    ensures { IfOk result (λ text. text ≡ label_text_of t.now) }
+    ensures { IfOk result (λ text. text ≡ decoded_label t.now) }
 {
     let mut text = Text::new(alloc);
     let t = if t.is_empty() { t } else { &t[1..] };

@@ -2,7 +2,7 @@
 ghost use Rattle.std.specs.Prelude.{◌≡◌, ◌+◌, ◌≤◌, ℤ, pos, ◌≤ℤ◌, [], ◌∷◌, ◌++◌, length};
 ghost use Rattle.std.specs.Fmt.{decimal, signed_decimal};
 ghost use Rattle.st_ids.specs.declared.limits.TheConstants.{MOST_COORDINATE};
-ghost use Rattle.eps_core.specs.Text.{at, beside, printed};
+ghost use Rattle.eps_core.specs.Text.{coordinate, beside, printed};
 
 use itoa::Buffer;
 use std::marker::Model;
@@ -125,7 +125,7 @@ impl Line {
         requires room { length self.old + 21 ≤ 256 }
         requires low { pos 0 ≤ℤ g }
         requires high { g ≤ℤ pos MOST_COORDINATE }
-        ensures text { self.new ≡ self.old ++ 32 ∷ at g }
+        ensures text { self.new ≡ self.old ++ 32 ∷ coordinate g }
         ensures len { length self.new ≤ length self.old + 21 }
     {
         self.number(24 * g + 36);

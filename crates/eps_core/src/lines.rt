@@ -4,8 +4,8 @@ ghost use Rattle.std.specs.List.{AllByRecursion};
 ghost use Rattle.std.specs.Fmt.{signed_decimal};
 ghost use Rattle.st_shape.specs.Inside.{IsInside, point};
 ghost use Rattle.st_shape.specs.Rules.{FitsFrame, HasNames};
-ghost use Rattle.eps_core.specs.Grid.{corner, IsOnGrid, AreOnGrid};
-ghost use Rattle.eps_core.specs.Text.{at, spaced, path, line_words, escaped, name_line as name_text, mark_line as mark_text, form_name, front_lines, printed};
+ghost use Rattle.eps_core.specs.Grid.{corner, IsInLargestFrame, AreInLargestFrame};
+ghost use Rattle.eps_core.specs.Text.{coordinate, spaced_words, path, line_words, escaped, name_line as name_text, mark_line as mark_text, form_name, front_lines, printed};
 
 use crate::line::Line;
 use st_shape::{Form, Item, Point};
@@ -24,7 +24,7 @@ fn new_line(start: &[u8]) -> Line
 #[inline(always)]
 fn one_name(line: &mut Line, start: &[u8], name: i64)
     requires { length start.now ≡ 2 }
-    ensures text { line.new ≡ spaced start.now (signed_decimal name ∷ []) }
+    ensures text { line.new ≡ spaced_words start.now (signed_decimal name ∷ []) }
     ensures short { length line.new ≤ 255 }
 {
     line.start(start);
@@ -33,7 +33,7 @@ fn one_name(line: &mut Line, start: &[u8], name: i64)
 
 // The first line of an edge: its name and those of its tail and head.
 fn three_names(line: &mut Line, name: i64, tail: i64, head: i64)
-    ensures text { line.new ≡ spaced (codes "%e") (signed_decimal name ∷ signed_decimal tail ∷ signed_decimal head ∷ []) }
+    ensures text { line.new ≡ spaced_words (codes "%e") (signed_decimal name ∷ signed_decimal tail ∷ signed_decimal head ∷ []) }
     ensures short { length line.new ≤ 255 }
 {
     line.start(b"%e");
@@ -72,8 +72,8 @@ pub fn name_line(line: &mut Line, item: &Item)
 #[inline(always)]
 fn place(line: &mut Line, p: Point)
     requires room { length line.old + 42 ≤ 256 }
-    requires on_grid { IsOnGrid p }
-    ensures text { line.new ≡ spaced line.old (at p.x ∷ at p.y ∷ []) }
+    requires on_grid { IsInLargestFrame p }
+    ensures text { line.new ≡ spaced_words line.old (coordinate p.x ∷ coordinate p.y ∷ []) }
     ensures len { length line.new ≤ length line.old + 42 }
 {
     line.at(p.x);
@@ -85,8 +85,8 @@ fn place(line: &mut Line, p: Point)
 fn step(line: &mut Line, p: Point, command: &[u8])
     requires room { length line.old + 52 ≤ 256 }
     requires command { length command.now ≤ 9 }
-    requires on_grid { IsOnGrid p }
-    ensures text { line.new ≡ spaced line.old (at p.x ∷ at p.y ∷ command.now ∷ []) }
+    requires on_grid { IsInLargestFrame p }
+    ensures text { line.new ≡ spaced_words line.old (coordinate p.x ∷ coordinate p.y ∷ command.now ∷ []) }
     ensures len { length line.new ≤ length line.old + (43 + length command.now) }
 {
     place(line, p);
@@ -95,8 +95,8 @@ fn step(line: &mut Line, p: Point, command: &[u8])
 
 // The second line of a dot.
 fn dot_line(line: &mut Line, p: Point)
-    requires { IsOnGrid p }
-    ensures text { line.new ≡ spaced (codes "newpath") (at p.x ∷ at p.y ∷ codes "4" ∷ codes "0" ∷ codes "360" ∷ codes "arc" ∷ codes "fill" ∷ []) }
+    requires { IsInLargestFrame p }
+    ensures text { line.new ≡ spaced_words (codes "newpath") (coordinate p.x ∷ coordinate p.y ∷ codes "4" ∷ codes "0" ∷ codes "360" ∷ codes "arc" ∷ codes "fill" ∷ []) }
     ensures short { length line.new ≤ 255 }
 {
     line.start(b"newpath");
@@ -110,9 +110,9 @@ fn dot_line(line: &mut Line, p: Point)
 
 // The second line of a bar or a face, which is a line between two points.
 fn pair_line(line: &mut Line, a: Point, b: Point)
-    requires a { IsOnGrid a }
-    requires b { IsOnGrid b }
-    ensures text { line.new ≡ spaced (codes "newpath") (at a.x ∷ at a.y ∷ codes "moveto" ∷ at b.x ∷ at b.y ∷ codes "lineto" ∷ codes "stroke" ∷ []) }
+    requires a { IsInLargestFrame a }
+    requires b { IsInLargestFrame b }
+    ensures text { line.new ≡ spaced_words (codes "newpath") (coordinate a.x ∷ coordinate a.y ∷ codes "moveto" ∷ coordinate b.x ∷ coordinate b.y ∷ codes "lineto" ∷ codes "stroke" ∷ []) }
     ensures short { length line.new ≤ 255 }
 {
     line.start(b"newpath");
@@ -124,8 +124,8 @@ fn pair_line(line: &mut Line, a: Point, b: Point)
 // Puts the further points of a line, and its end. It calls itself once for each point, of which there are at most 3.
 fn go_on(line: &mut Line, points: &[Point])
     requires room { length line.old + (49 * length points.now + 7) ≤ 256 }
-    requires on_grid { AreOnGrid points.now }
-    ensures text { line.new ≡ spaced line.old (path points.now) }
+    requires on_grid { AreInLargestFrame points.now }
+    ensures text { line.new ≡ spaced_words line.old (path points.now) }
     ensures len { length line.new ≤ length line.old + (49 * length points.now + 7) }
 {
     match points {
@@ -141,8 +141,8 @@ fn go_on(line: &mut Line, points: &[Point])
 fn path_line(line: &mut Line, points: &[Point])
     requires some { 2 ≤ length points.now }
     requires few { length points.now ≤ 4 }
-    requires on_grid { AreOnGrid points.now }
-    ensures text { line.new ≡ spaced (codes "newpath") (line_words points.now) }
+    requires on_grid { AreInLargestFrame points.now }
+    ensures text { line.new ≡ spaced_words (codes "newpath") (line_words points.now) }
     ensures short { length line.new ≤ 255 }
 {
     line.start(b"newpath");
@@ -154,8 +154,8 @@ fn path_line(line: &mut Line, points: &[Point])
 
 // The second line of an edge that is drawn as a box.
 fn box_line(line: &mut Line, low: Point, high: Point)
-    requires low { IsOnGrid low }
-    requires high { IsOnGrid high }
+    requires low { IsInLargestFrame low }
+    requires high { IsInLargestFrame high }
     ensures text { line.new ≡ mark_text (Item.Rect (pos 0) (pos 0) (pos 0) low high) }
     ensures short { length line.new ≤ 255 }
 {
@@ -247,7 +247,7 @@ fn bracket(line: &mut Line, text: &[u8])
 
 // The second line of a label.
 fn label_line(line: &mut Line, p: Point, text: &[u8])
-    requires on_grid { IsOnGrid p }
+    requires on_grid { IsInLargestFrame p }
     requires few { length text.now ≤ 80 }
     ensures text { line.new ≡ mark_text (Item.Label (pos 0) p text.now) }
     ensures short { length line.new ≤ 255 }
@@ -281,8 +281,8 @@ pub fn mark_line(line: &mut Line, item: &Item)
 
 // The line of the bounding box.
 fn box_words(frame: Point) -> Line
-    requires { IsOnGrid frame }
-    ensures text { result ≡ spaced (codes "%%BoundingBox:") (codes "0" ∷ codes "0" ∷ signed_decimal (printed 72 frame.x) ∷ signed_decimal (printed 72 frame.y) ∷ []) }
+    requires { IsInLargestFrame frame }
+    ensures text { result ≡ spaced_words (codes "%%BoundingBox:") (codes "0" ∷ codes "0" ∷ signed_decimal (printed 72 frame.x) ∷ signed_decimal (printed 72 frame.y) ∷ []) }
     ensures short { length result ≤ 255 }
 {
     let mut line = new_line(b"%%BoundingBox:");
@@ -295,7 +295,7 @@ fn box_words(frame: Point) -> Line
 
 // The line of the title.
 fn title(form: Form) -> Line
-    ensures text { result ≡ spaced (codes "%%Title:") (form_name form ∷ []) }
+    ensures text { result ≡ spaced_words (codes "%%Title:") (form_name form ∷ []) }
     ensures short { length result ≤ 255 }
 {
     let mut line = new_line(b"%%Title:");
@@ -311,7 +311,7 @@ fn title(form: Form) -> Line
 
 /// The lines before the items.
 pub fn front(form: Form, frame: Point) -> [Line; 6]
-    requires { IsOnGrid frame }
+    requires { IsInLargestFrame frame }
     ensures text { result ≡ front_lines form frame }
     ensures short { AllByRecursion (λ (l : List ℕ). length l ≤ 255) result }
 {

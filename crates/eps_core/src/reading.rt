@@ -5,7 +5,7 @@
 ghost use Rattle.std.specs.Prelude.{◌≡◌, ◌≢◌, ◌<◌, ◌^◌, ◌↔◌, [], ◌∷◌, ◌++◌, codes, length, Some, IsTrue, IfOk, IfErr, IfSome, IfNone, ℕ};
 ghost use Rattle.st_shape.specs.Rules.{FitsFrame, HasNames, IsFrame, IsItem, IsPicture};
 ghost use Rattle.eps_core.specs.Decoding.{after_line, decoded, form_from, frame_from, line_from};
-ghost use Rattle.eps_core.specs.Meaning.{IsFirstBad, IsText};
+ghost use Rattle.eps_core.specs.Meaning.{IsFirstBad, IsPictureText};
 ghost use Rattle.eps_core.specs.Reading.{IsFirstRefused, IsSecondRefused, MarksNone, NamesNone};
 ghost use Rattle.eps_core.specs.Text.{mark_line as mark_text, name_line as name_text, text};
 
@@ -187,7 +187,7 @@ pub fn read_eps(alloc: Global, bytes: &[u8]) -> Result<Picture, EpsFault>
 
     // `BadLine` exactly where the bytes are no picture's text.
     ensures first_bad { IfErr result (λ fault. (line : ℕ) → fault ≡ EpsFault.BadLine line → IsFirstBad bytes.now line) }
-    ensures taken { IsText bytes.now → IfErr result (λ fault. fault ≡ EpsFault.NoMemory) }
+    ensures taken { IsPictureText bytes.now → IfErr result (λ fault. fault ≡ EpsFault.NoMemory) }
 {
     let (form, frame) = form_and_frame(bytes);
     let mut rest = match match_lines(&front(form, frame), bytes) {

@@ -4,7 +4,7 @@
 ghost use Rattle.std.specs.Prelude.{◌≡◌, ◌==◌, ◌≤◌, length};
 ghost use Rattle.std.specs.Int.RustNames.{unsigned_abs};
 ghost use Rattle.std.specs.List.{position_or_len};
-ghost use Rattle.eps_core.specs.Decoding.{word as word_of, behind as behind_of, value_from, plus as plus_of, minus as minus_of, number_of, grid_of, place_of, past_place, past_step as past_step_of, number_32};
+ghost use Rattle.eps_core.specs.Decoding.{first_word, behind_word, value_from, plus as plus_of, minus as minus_of, signed_value, grid_of, decoded_point, past_place, past_step as past_step_of, number_32};
 
 use st_shape::Point;
 
@@ -21,17 +21,17 @@ fn space(s: &[u8]) -> usize
 }
 
 /// The bytes before the first space.
-#[tactic(auto, unfolding(crate::specs::Decoding::word))]
+#[tactic(auto, unfolding(crate::specs::Decoding::first_word))]
 pub fn word(s: &[u8]) -> &[u8]
-    ensures { result.now ≡ word_of s.now }
+    ensures { result.now ≡ first_word s.now }
 {
     &s[..space(s)]
 }
 
 /// The bytes behind the first space.
-#[tactic(auto, unfolding(crate::specs::Decoding::behind))]
+#[tactic(auto, unfolding(crate::specs::Decoding::behind_word))]
 pub fn behind(s: &[u8]) -> &[u8]
-    ensures { result.now ≡ behind_of s.now }
+    ensures { result.now ≡ behind_word s.now }
 {
     let n = space(s);
     if n < s.len() { &s[n + 1..] } else { &s[n..] }
@@ -72,9 +72,9 @@ fn minus(value: Option<u64>) -> i64
 }
 
 /// The number that these bytes spell.
-#[tactic(auto, unfolding(crate::specs::Decoding::number_of))]
+#[tactic(auto, unfolding(crate::specs::Decoding::signed_value))]
 pub fn number(s: &[u8]) -> i64
-    ensures { result ≡ number_of s.now }
+    ensures { result ≡ signed_value s.now }
 {
     if !s.is_empty() && s[0] == b'-' {
         return minus(digits(&s[1..]));
@@ -99,9 +99,9 @@ fn grid(margin: u64, n: i64) -> i64
 }
 
 /// The point whose two coordinates come next.
-#[tactic(auto, unfolding(crate::specs::Decoding::place_of))]
+#[tactic(auto, unfolding(crate::specs::Decoding::decoded_point))]
 pub fn place(margin: u64, s: &[u8]) -> Point
-    ensures { result ≡ place_of margin s.now }
+    ensures { result ≡ decoded_point margin s.now }
 {
     Point {
         x: grid(margin, number(word(s))),

@@ -13,7 +13,7 @@ use Rattle.gml_core.specs.declared.token.Token.{Token}
 use Rattle.gml_core.specs.declared.fault.GmlFault.{GmlFault}
 use Rattle.gml_core.specs.declared.fault.GmlFault.TheVariants.{BadByte}
 use Rattle.gml_core.specs.Bytes.{is_space, is_word, begins_number, is_numeric, number_kind}
-use Rattle.gml_core.specs.Lexing.{gap, gap_from, token, string_at, number_at, token_at, next_place, next}
+use Rattle.gml_core.specs.Lexing.{gap, gap_from, token, string_at, number_token_at, token_at, next_place, next_token}
 use Rattle.gml_core.specs.Reading.{part}
 
 -- ---- fronts
@@ -72,7 +72,7 @@ string_again : (kind : TokenKind) (at len : ℕ) (o p : Option ℕ) → ((n : �
 string_again kind at len (Some n) p h = subst (λ (q : Option ℕ). Same kind at len (string_at 0 (Some n)) (string_at at q)) (sym (h n refl)) (moved kind at len kinds.Str (n + 2))
 string_again kind at len None p h = record { again = λ e. absurd cc }
 
-number_again : (kind : TokenKind) (at len n : ℕ) (o : Option TokenKind) → Same kind at len (number_at 0 n o) (number_at at n o)
+number_again : (kind : TokenKind) (at len n : ℕ) (o : Option TokenKind) → Same kind at len (number_token_at 0 n o) (number_token_at at n o)
 number_again kind at len n (Some k) = moved kind at len k n
 number_again kind at len n None = record { again = λ e. absurd cc }
 
@@ -89,9 +89,9 @@ token_again kind at len (b ∷ bs) rest del h =
     let text-is : take run ((b ∷ bs) ++ rest) ≡ take run (b ∷ bs) = take-append-le run (b ∷ bs) rest (prefix_len-le-length is_numeric (b ∷ bs)) in
     let key : Same kind at len (Ok (token kinds.Key 0 (prefix_len is_word bs + 1))) (Ok (token kinds.Key at (prefix_len is_word (bs ++ rest) + 1))) =
     subst (λ (n : ℕ). Same kind at len (Ok (token kinds.Key 0 (prefix_len is_word bs + 1))) (Ok (token kinds.Key at (n + 1)))) (sym word-is) (moved kind at len kinds.Key (prefix_len is_word bs + 1)) in
-    let number : Same kind at len (number_at 0 run (number_kind (take run (b ∷ bs)))) (number_at at (prefix_len is_numeric ((b ∷ bs) ++ rest)) (number_kind (take (prefix_len is_numeric ((b ∷ bs) ++ rest)) ((b ∷ bs) ++ rest)))) =
-    subst (λ (n : ℕ). Same kind at len (number_at 0 run (number_kind (take run (b ∷ bs)))) (number_at at n (number_kind (take n ((b ∷ bs) ++ rest))))) (sym run-is)
-    (subst (λ (l : List ℕ). Same kind at len (number_at 0 run (number_kind (take run (b ∷ bs)))) (number_at at run (number_kind l))) (sym text-is) (number_again kind at len run (number_kind (take run (b ∷ bs))))) in
+    let number : Same kind at len (number_token_at 0 run (number_kind (take run (b ∷ bs)))) (number_token_at at (prefix_len is_numeric ((b ∷ bs) ++ rest)) (number_kind (take (prefix_len is_numeric ((b ∷ bs) ++ rest)) ((b ∷ bs) ++ rest)))) =
+    subst (λ (n : ℕ). Same kind at len (number_token_at 0 run (number_kind (take run (b ∷ bs)))) (number_token_at at n (number_kind (take n ((b ∷ bs) ++ rest))))) (sym run-is)
+    (subst (λ (l : List ℕ). Same kind at len (number_token_at 0 run (number_kind (take run (b ∷ bs)))) (number_token_at at run (number_kind l))) (sym text-is) (number_again kind at len run (number_kind (take run (b ∷ bs))))) in
     (by_cond kind at len (b == 91) _ _ _ _ (moved kind at len kinds.OpenList 1)
     (by_cond kind at len (b == 93) _ _ _ _ (moved kind at len kinds.CloseList 1)
     (by_cond kind at len (b == 34) _ _ _ _ (string_again kind at len (position (λ x. x == 34) bs) (position (λ x. x == 34) (bs ++ rest)) (λ n e. position_kept (λ x. x == 34) bs rest n e))
@@ -117,8 +117,8 @@ abbrev pub IsGap : List ℕ → Type 0
 IsGap g = (rest : List ℕ) → gap rest ≡ 0 → gap (g ++ rest) ≡ length g
 
 pub token_step : (bytes pre g w rest : List ℕ) (kind : TokenKind) → bytes ≡ pre ++ (g ++ (w ++ rest)) → gap (g ++ (w ++ rest)) ≡ length g → 0 < length w
-    → token_at (length pre + length g) (w ++ rest) ≡ Ok (token kind (length pre + length g) (length w)) → next bytes (length pre) ≡ Ok (Some (token kind (length pre + length g) (length w)))
-unfolding next
+    → token_at (length pre + length g) (w ++ rest) ≡ Ok (token kind (length pre + length g) (length w)) → next_token bytes (length pre) ≡ Ok (Some (token kind (length pre + length g) (length w)))
+unfolding next_token
 token_step bytes pre g w rest kind e gap-is positive tok =
     let at = length pre in
     let here : drop at bytes ≡ g ++ (w ++ rest) = ap (drop at) e ∙ drop_at pre (g ++ (w ++ rest)) at refl in

@@ -13,7 +13,7 @@ use Rattle.gml_core.specs.declared.token.Token.{Token}
 use Rattle.gml_core.specs.declared.fault.GmlFault.{GmlFault}
 use Rattle.gml_core.specs.declared.fault.GmlFault.TheVariants.{BadByte}
 use Rattle.gml_core.specs.Bytes.{is_space, ends_line, is_word, begins_number, is_numeric, number_kind}
-use Rattle.gml_core.specs.Lexing.{gap, gap_from, token, string_at, number_at, token_at}
+use Rattle.gml_core.specs.Lexing.{gap, gap_from, token, string_at, number_token_at, token_at}
 use Rattle.gml_core.specs.Sound.{IsSpelled}
 
 -- a front that ends within the first m is the same in these
@@ -72,11 +72,11 @@ string_back kind at m (Some n) p h = record {
 }
 string_back kind at m None p h = record { alone = λ e. absurd cc }
 
-number_back : (kind : TokenKind) (at m n l : ℕ) (o p : Option TokenKind) → (n ≡ suc m → (l ≡ suc m) × (p ≡ o)) → Back kind at m (number_at at n o) (number_at 0 l p)
+number_back : (kind : TokenKind) (at m n l : ℕ) (o p : Option TokenKind) → (n ≡ suc m → (l ≡ suc m) × (p ≡ o)) → Back kind at m (number_token_at at n o) (number_token_at 0 l p)
 number_back kind at m n l (Some k) p h = record {
   alone = λ e.
       let n-is = len_is k kind at n (suc m) e in
-      ap (number_at 0 l) (h n-is).1 ∙ (back kind at m k n l (λ x. (h x).0)).alone e;
+      ap (number_token_at 0 l) (h n-is).1 ∙ (back kind at m k n l (λ x. (h x).0)).alone e;
 }
 number_back kind at m n l None p h = record { alone = λ e. absurd cc }
 
@@ -148,7 +148,7 @@ shaped_string : (at len : ℕ) (o : Option ℕ) → ((n : ℕ) → o ≡ Some n 
 shaped_string at len (Some n) h = shaped kinds.Str at (n + 2) len (omega arith) (h n refl)
 shaped_string at len None h = record { shape = λ t e. absurd cc }
 
-shaped_number : (at n len : ℕ) (o : Option TokenKind) → 0 < n → n ≤ len → Shaped at len (number_at at n o)
+shaped_number : (at n len : ℕ) (o : Option TokenKind) → 0 < n → n ≤ len → Shaped at len (number_token_at at n o)
 shaped_number at n len (Some k) positive le = shaped k at n len positive le
 shaped_number at n len None positive le = record { shape = λ t e. absurd cc }
 

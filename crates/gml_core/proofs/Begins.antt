@@ -20,8 +20,8 @@ use Rattle.gml_core.specs.declared.pieces.State.TheVariants.{Start, MarkOne, Mar
 use Rattle.gml_core.specs.declared.pieces.Seen.{Seen}
 use Rattle.gml_core.specs.declared.pieces.Seen.TheVariants.{More, Whole}
 use Rattle.gml_core.specs.Bytes.{is_word, begins_number, is_numeric, number_kind}
-use Rattle.gml_core.specs.Lexing.{token, string_at, number_at, token_at, found}
-use Rattle.gml_core.specs.Pieces.{after_gap, at_start, first_of, is_quoted, inside, coming, held_of, before, behind, IsPlaced, Goes, Closes, Sees}
+use Rattle.gml_core.specs.Lexing.{token, string_at, number_token_at, token_at, found}
+use Rattle.gml_core.specs.Pieces.{after_gap, at_start, first_of, is_quoted, inside_token, coming, held_of, before, behind, IsPlaced, Goes, Closes, Sees}
 use Rattle.gml_core.proofs.Total.{found_moves, token_at_moves}
 
 -- ---- one row a first byte
@@ -31,7 +31,7 @@ row Open at b bs = Ok (token kinds.OpenList at 1)
 row Close at b bs = Ok (token kinds.CloseList at 1)
 row Quote at b bs = string_at at (position (λ x. x == 34) bs)
 row Letter at b bs = Ok (token kinds.Key at (prefix_len is_word bs + 1))
-row Digit at b bs = number_at at (prefix_len is_numeric (b ∷ bs)) (number_kind (take (prefix_len is_numeric (b ∷ bs)) (b ∷ bs)))
+row Digit at b bs = number_token_at at (prefix_len is_numeric (b ∷ bs)) (number_kind (take (prefix_len is_numeric (b ∷ bs)) (b ∷ bs)))
 row Other at b bs = Err (BadByte at)
 
 abbrev picked : Bool → Bool → Bool → Bool → Bool → First
@@ -68,19 +68,19 @@ in_word false false false w e = absurd cc
 abbrev came : Token → Result (Option Token) GmlFault
 came t = Ok (Some t)
 
-is_key : (at b : ℕ) (bs : List ℕ) → first_of b ≡ Letter → found (token_at at (b ∷ bs)) ≡ inside runs.Key at [] (b ∷ bs)
+is_key : (at b : ℕ) (bs : List ℕ) → first_of b ≡ Letter → found (token_at at (b ∷ bs)) ≡ inside_token runs.Key at [] (b ∷ bs)
 is_key at b bs e =
     let alphabetic : is_ascii_alphabetic b ≡ true = letter (b == 91) (b == 93) (b == 34) (is_ascii_alphabetic b) (begins_number b) e in
     let word : is_word b ≡ true = in_word (is_ascii_digit b) (is_in_range 65 90 b) (is_in_range 97 122 b) (b == 95) alphabetic in
     let len : prefix_len is_word bs + 1 ≡ 0 + prefix_len is_word (b ∷ bs) = omega (arith, ap (λ (t : Bool). cond t (1 + prefix_len is_word bs) 0) word) in
     ap found (token_row at b bs Letter e) ∙ ap (λ (n : ℕ). came (token kinds.Key at n)) len
 
-is_number : (at b : ℕ) (bs : List ℕ) → first_of b ≡ Digit → found (token_at at (b ∷ bs)) ≡ inside runs.Number at [] (b ∷ bs)
+is_number : (at b : ℕ) (bs : List ℕ) → first_of b ≡ Digit → found (token_at at (b ∷ bs)) ≡ inside_token runs.Number at [] (b ∷ bs)
 is_number at b bs e =
     let run = prefix_len is_numeric (b ∷ bs) in
-    ap found (token_row at b bs Digit e) ∙ ap (λ (n : ℕ). found (number_at at n (number_kind (take run (b ∷ bs))))) (sym (zero-add run))
+    ap found (token_row at b bs Digit e) ∙ ap (λ (n : ℕ). found (number_token_at at n (number_kind (take run (b ∷ bs))))) (sym (zero-add run))
 
-is_string : (at b : ℕ) (bs : List ℕ) → first_of b ≡ Quote → found (token_at at (b ∷ bs)) ≡ inside runs.Quoted at [] bs
+is_string : (at b : ℕ) (bs : List ℕ) → first_of b ≡ Quote → found (token_at at (b ∷ bs)) ≡ inside_token runs.Quoted at [] bs
 is_string at b bs e =
     let n = prefix_len is_quoted bs in
     ap found (token_row at b bs Quote e) ∙ closed n (nat_lt n (length bs)) ∙ ap (λ (m : ℕ). cond (nat_lt n (length bs)) (came (token kinds.Str at (m + 2))) (Err (OpenString at))) (sym (zero-add n))
@@ -94,7 +94,7 @@ is_string at b bs e =
 abbrev pub Begins : State → ℕ → List ℕ → Type 0
 Begins s at rest = (c : List ℕ) → coming s at (rest ++ c) ≡ found (token_at at (rest ++ c))
 
-sees_from : (s : State) (run : Run) (at : ℕ) (rest : List ℕ) (seen : Seen) → held_of s ≡ [] → Begins s at rest → ((c : List ℕ) → found (token_at at (rest ++ c)) ≡ inside run at [] (rest ++ c)) → Sees (Inside run at []) at rest seen → Sees s at rest seen
+sees_from : (s : State) (run : Run) (at : ℕ) (rest : List ℕ) (seen : Seen) → held_of s ≡ [] → Begins s at rest → ((c : List ℕ) → found (token_at at (rest ++ c)) ≡ inside_token run at [] (rest ++ c)) → Sees (Inside run at []) at rest seen → Sees s at rest seen
 unfolding coming
 sees_from s run at rest (More new k) none begins same sees = record {
   progress = sees.progress;
@@ -135,7 +135,7 @@ begin_quote s at [] held some e held-is none begins = absurd (omega arith)
 begin_quote s at (b ∷ bs) held some e held-is none begins = record {
   progress = omega arith;
   within = omega arith;
-  comes = λ c. begins c ∙ is_string at b (bs ++ c) e ∙ ap (λ (h : List ℕ). inside runs.Quoted at h (bs ++ c)) (sym held-is);
+  comes = λ c. begins c ∙ is_string at b (bs ++ c) e ∙ ap (λ (h : List ℕ). inside_token runs.Quoted at h (bs ++ c)) (sym held-is);
   left = b ∷ [];
   bytes = ap (λ (h : List ℕ). b ∷ h) held-is ∙ ap (λ (h : List ℕ). h ++ b ∷ []) (sym none);
   placed = omega (arith, ap length held-is);

@@ -15,7 +15,7 @@ use Rattle.gml_core.specs.Trees.{Word, opens, closes, key, value, Atom, int, rea
 use Rattle.gml_core.specs.Views.{datum, entries, entry_view}
 use Rattle.gml_core.specs.Reading.{integer, at_value, step_at}
 use Rattle.gml_core.specs.Nested.{nested}
-use Rattle.gml_core.specs.Building.{open_words, places, state_of, Takes, IsAtom}
+use Rattle.gml_core.specs.Building.{open_words, places, state_of, TakesWord, IsAtom}
 
 -- one pair more
 pub spelling_push : (ps : List Pair) (p : Pair) → spelling (entries (ps ++ p ∷ [])) ≡ spelling (entries ps) ++ entry_spelling (entry_view p)
@@ -126,7 +126,7 @@ step_value at ls k w a e fit = ap (at_value k ls at) e ∙ rw fit refl
 -- ---- what each part of the builder does
 
 pub close_takes : (at : ℕ) (word : Word) (old new : Builder) (f : Frame) (inner : List Pair) (p : Pair) → word ≡ closes → old.waits ≡ None → new.waits ≡ None
-    → old.stack.items ≡ new.stack.items ++ f ∷ [] → inner ≡ drop f.start old.pairs.items → new.pairs.items ≡ take f.start old.pairs.items ++ p ∷ [] → entry_view p ≡ entry f.key f.at (list (entries inner)) → Takes at word old new
+    → old.stack.items ≡ new.stack.items ++ f ∷ [] → inner ≡ drop f.start old.pairs.items → new.pairs.items ≡ take f.start old.pairs.items ++ p ∷ [] → entry_view p ≡ entry f.key f.at (list (entries inner)) → TakesWord at word old new
 close_takes at word old new f inner p said none none' stack inner-is pairs view =
     let nests : IsTrue (nested (reverse (new.stack.items ++ f ∷ [])) (length old.pairs.items)) = subst (λ (l : List Frame). IsTrue (nested (reverse l) (length old.pairs.items))) stack old.nested in
     record {
@@ -135,21 +135,21 @@ close_takes at word old new f inner p said none none' stack inner-is pairs view 
     }
 
 pub wait_takes : (at : ℕ) (word : Word) (old new : Builder) (text : List ℕ) (w : Waiting) → word ≡ key text at → old.waits ≡ None → new.waits ≡ Some w → w.key ≡ text → w.at ≡ at
-    → new.stack.items ≡ old.stack.items → new.pairs.items ≡ old.pairs.items → Takes at word old new
+    → new.stack.items ≡ old.stack.items → new.pairs.items ≡ old.pairs.items → TakesWord at word old new
 wait_takes at word old new text w said none some key-is at-is stack pairs = record {
   words = rw (none, some, stack, pairs, key-is, at-is, said) (simp append-nil);
   state = rw (none, some, stack, at-is) (step_key at (places old.stack.items) text word said);
 }
 
 pub begin_takes : (at : ℕ) (word : Word) (old new : Builder) (w : Waiting) (f : Frame) → word ≡ opens → length old.stack.items < 32 → old.waits ≡ Some w → new.waits ≡ None
-    → new.stack.items ≡ old.stack.items ++ f ∷ [] → new.pairs.items ≡ old.pairs.items → f.start ≡ length old.pairs.items → f.key ≡ w.key → f.at ≡ w.at → f.from ≡ at → Takes at word old new
+    → new.stack.items ≡ old.stack.items ++ f ∷ [] → new.pairs.items ≡ old.pairs.items → f.start ≡ length old.pairs.items → f.key ≡ w.key → f.at ≡ w.at → f.from ≡ at → TakesWord at word old new
 begin_takes at word old new w f said lt some none stack pairs start key-is at-is from-is = record {
   words = rw (some, none, stack, pairs, ← key-is, ← at-is, said) (begin_words old.stack.items f old.pairs.items start);
   state = rw (some, none, stack, places_push old.stack.items f, from-is) (step_begin at (places old.stack.items) w.at word said (omega (arith, length-places old.stack.items)));
 }
 
 pub put_takes : (at : ℕ) (word : Word) (old new : Builder) (w : Waiting) (v : Value) (p : Pair) → IsAtom word v → old.waits ≡ Some w → new.waits ≡ None → new.stack.items ≡ old.stack.items
-    → new.pairs.items ≡ old.pairs.items ++ p ∷ [] → entry_view p ≡ entry w.key w.at (datum v) → Takes at word old new
+    → new.pairs.items ≡ old.pairs.items ++ p ∷ [] → entry_view p ≡ entry w.key w.at (datum v) → TakesWord at word old new
 put_takes at word old new w v p is some none stack pairs view = record {
   words = rw (some, none, stack, pairs, is.word) (put_words (reverse old.stack.items) old.pairs.items p w.key w.at is.said old.nested (view ∙ ap (entry w.key w.at) is.value));
   state = rw (some, none, stack) (step_value at (places old.stack.items) w.at word is.said is.word is.fit);

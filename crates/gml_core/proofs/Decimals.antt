@@ -11,7 +11,7 @@ use Rattle.std.proofs.lemmas.Str.Parse.{IsNumeralModel, numerals_by_fold, tells_
 use Rattle.std.proofs.lemmas.Fmt.{decimal_is_IsNumeral, digits_value-decimal}
 use Rattle.gml_core.specs.declared.token.TokenKind.TheVariants as kinds
 use Rattle.gml_core.specs.Bytes.{is_space, is_sign, begins_number, is_numeric, unsigned, digits, behind_digits, number_kind}
-use Rattle.gml_core.specs.Lexing.{token, token_at, number_at}
+use Rattle.gml_core.specs.Lexing.{token, token_at, number_token_at}
 use Rattle.gml_core.specs.Trees.{int, fits}
 use Rattle.gml_core.specs.Reading.{number, integer}
 use Rattle.gml_core.specs.Sound.{IsSpelled}
@@ -70,8 +70,8 @@ pub fifth : {A : Type 0} (a b c d e : Bool) (u v w x y z : A) → a ≡ false �
 fifth a b c d e u v w x y z p q r s t = rw (p, q, r, s, t) refl
 
 -- a run of digits is read whole
-whole_run : (run : List ℕ) → prefix_len is_numeric run ≡ length run → number_kind run ≡ Some kinds.Int → number_at 0 (prefix_len is_numeric run) (number_kind (take (prefix_len is_numeric run) run)) ≡ Ok (token kinds.Int 0 (length run))
-whole_run run len kind = ap (λ (n : ℕ). number_at 0 n (number_kind (take n run))) len ∙ ap (λ (l : List ℕ). number_at 0 (length run) (number_kind l)) (take_all (length run) run (omega arith)) ∙ ap (number_at 0 (length run)) kind
+whole_run : (run : List ℕ) → prefix_len is_numeric run ≡ length run → number_kind run ≡ Some kinds.Int → number_token_at 0 (prefix_len is_numeric run) (number_kind (take (prefix_len is_numeric run) run)) ≡ Ok (token kinds.Int 0 (length run))
+whole_run run len kind = ap (λ (n : ℕ). number_token_at 0 n (number_kind (take n run))) len ∙ ap (λ (l : List ℕ). number_token_at 0 (length run) (number_kind l)) (take_all (length run) run (omega arith)) ∙ ap (number_token_at 0 (length run)) kind
 
 plain : (ds : List ℕ) → 0 < length ds → AreDigits ds → IsSpelled kinds.Int ds
 unfolding token_at

@@ -8,7 +8,7 @@ use Rattle.gml_core.specs.declared.token.Token.{Token}
 use Rattle.gml_core.specs.declared.fault.GmlFault.{GmlFault}
 use Rattle.gml_core.specs.declared.fault.GmlFault.TheVariants.{BadByte, OpenString, BadNumber, NoMemory}
 use Rattle.gml_core.specs.Bytes.{begins_number, is_numeric, number_kind}
-use Rattle.gml_core.specs.Lexing.{string_at, number_at, token_at, found, next_place, next, IsFaultyToken, IsTokenFault}
+use Rattle.gml_core.specs.Lexing.{string_at, number_token_at, token_at, found, next_place, next_token, IsFaultyToken, IsTokenFault}
 
 record Tells {A : Type 0} (r : Result A GmlFault) : Type 0 where
   fault : (f : GmlFault) → r ≡ Err f → IsTokenFault f
@@ -27,7 +27,7 @@ string_tells : (at : ℕ) (o : Option ℕ) → Tells (string_at at o)
 string_tells at (Some n) = fine _
 string_tells at None = says (OpenString at) tt
 
-number_tells : (at n : ℕ) (o : Option TokenKind) → Tells (number_at at n o)
+number_tells : (at n : ℕ) (o : Option TokenKind) → Tells (number_token_at at n o)
 number_tells at n (Some k) = fine _
 number_tells at n None = says (BadNumber at) tt
 
@@ -42,8 +42,8 @@ found_tells : (r : Result Token GmlFault) → Tells r → Tells (found r)
 found_tells (Ok t) h = fine _
 found_tells (Err f) h = says f (h.fault f refl)
 
-next_tells : (bytes : List ℕ) (at : ℕ) → Tells (next bytes at)
-unfolding next
+next_tells : (bytes : List ℕ) (at : ℕ) → Tells (next_token bytes at)
+unfolding next_token
 next_tells bytes at = by_cond (nat_lt (next_place bytes at) (length bytes)) _ _ (found_tells (token_at (next_place bytes at) (drop (next_place bytes at) bytes)) (token_tells (next_place bytes at) (drop (next_place bytes at) bytes))) (fine None)
 
 pub faulty_kind : (b : List ℕ) (f : GmlFault) → IsFaultyToken b f → IsTokenFault f

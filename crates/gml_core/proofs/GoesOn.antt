@@ -6,17 +6,17 @@ use Rattle.std.proofs.lemmas.Option.{none-some, same_Some}
 use Rattle.gml_core.specs.declared.token.Token.{Token}
 use Rattle.gml_core.specs.declared.fault.GmlFault.{GmlFault}
 use Rattle.gml_core.specs.Trees.{Entries, Word, spelling}
-use Rattle.gml_core.specs.Lexing.{next}
+use Rattle.gml_core.specs.Lexing.{next_token}
 use Rattle.gml_core.specs.Reading.{begin, word, fault_of, end_fault, IsBounded, IsFirstFault}
 use Rattle.gml_core.proofs.Walks.{Shape, walk, walk_moves, none_step, walk_bounded, shape, begin_is}
 use Rattle.gml_core.proofs.Unique.{stops_from, Stops}
 
 -- behind a faulty token no words are walked
 pub none_with : (bytes : List ℕ) (f : GmlFault) (first : IsFirstFault bytes f) (t : Token) (others : List Word) (tree : Entries)
-    → next bytes first.at ≡ Ok (Some t) → IsBounded tree → spelling tree ≡ map (word bytes) (first.tokens ++ t ∷ []) ++ others → ⊥
+    → next_token bytes first.at ≡ Ok (Some t) → IsBounded tree → spelling tree ≡ map (word bytes) (first.tokens ++ t ∷ []) ++ others → ⊥
 none_with bytes f first t others tree comes bounded e =
     let s = first.state in
-    let stop = subst (Stops bytes s) comes (stops_from bytes s (next bytes first.at) f first.fault) in
+    let stop = subst (Stops bytes s) comes (stops_from bytes s (next_token bytes first.at) f first.fault) in
     let rest = word bytes t ∷ others in
     let grouped : map (word bytes) (first.tokens ++ t ∷ []) ++ others ≡ map (word bytes) first.tokens ++ rest = ap (λ (ws : List Word). ws ++ others) (map_push (word bytes) first.tokens t) ∙ append_assoc (map (word bytes) first.tokens) (word bytes t ∷ []) others in
     let walked : Some (false, 0) ≡ walk (is_some s.waits) (length s.lists) rest = sym (walk_bounded tree bounded) ∙ ap (walk false 0) (e ∙ grouped) ∙ walk_moves bytes begin s first.tokens rest first.moves in
@@ -24,7 +24,7 @@ none_with bytes f first t others tree comes bounded e =
     none-some _ (sym nothing ∙ sym walked)
 
 -- the words of a text lead to no state in which the end is a fault
-pub none_ends : (bytes : List ℕ) (f : GmlFault) (first : IsFirstFault bytes f) (tree : Entries) → next bytes first.at ≡ Ok None → IsBounded tree → spelling tree ≡ map (word bytes) first.tokens → ⊥
+pub none_ends : (bytes : List ℕ) (f : GmlFault) (first : IsFirstFault bytes f) (tree : Entries) → next_token bytes first.at ≡ Ok None → IsBounded tree → spelling tree ≡ map (word bytes) first.tokens → ⊥
 none_ends bytes f first tree comes bounded e =
     let s = first.state in
     let walked : Some (false, 0) ≡ Some (shape s) =

@@ -1,26 +1,27 @@
-pub mod Pushes
-pub mod SoundLemmas
-pub mod Cuts
-pub mod Builds
-pub mod Walks
-pub mod SoFar
-pub mod Unique
-pub mod GoesOn
-pub mod Partial
-pub mod Total
-pub mod Again
-pub mod Decimals
-pub mod RoundTrip
-pub mod Exact
-pub mod Alone
-pub mod Well
-pub mod Sizes
-pub mod Looks
-pub mod Begins
-pub mod Resuming
-pub mod Faults
-pub mod TokensRead
-pub mod TreeRead
-pub mod Wholes
-pub mod Looked
-pub mod Pairs
+mod Pushes
+mod SoundLemmas
+mod Cuts
+mod Builds
+mod Walks
+mod SoFar
+mod Unique
+mod GoesOn
+mod Partial
+mod Total
+mod Again
+mod Decimals
+mod RoundTrip
+mod Exact
+mod Alone
+mod Well
+mod Sizes
+mod Looks
+mod Begins
+mod Resuming
+mod Faults
+mod TokensRead
+mod TreeRead
+mod Wholes
+mod Looked
+mod Pairs
+pub mod Public

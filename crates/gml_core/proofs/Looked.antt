@@ -7,7 +7,7 @@ use Rattle.gml_core.specs.declared.pieces.State.TheVariants.{Between}
 use Rattle.gml_core.specs.declared.readers.TokenReader.{TokenReader}
 use Rattle.gml_core.specs.declared.readers.TreeReader.{TreeReader}
 use Rattle.gml_core.specs.Reading.{said_by, step_at}
-use Rattle.gml_core.specs.Building.{state_of, Takes}
+use Rattle.gml_core.specs.Building.{state_of, TakesWord}
 use Rattle.gml_core.specs.Pieces.{after_gap, coming, IsPlaced, rank, Goes, Closes}
 use Rattle.gml_core.specs.Readers.{LeadUp, TokensRead, BuiltUp, TreeReadsWith}
 use Rattle.gml_core.proofs.Begins.{gap_goes_on}
@@ -44,7 +44,7 @@ pub tree_goes : (fault : Option GmlFault) (old new : TreeReader) (b rest : List 
 tree_goes (Some f) old new b rest k none goes builder fed r = absurd cc
 tree_goes None old new b rest k none goes builder fed r = rw (builder, fed) (goes_on (BuiltUp old.builder) b rest old.state new.state old.fed k r goes)
 
-pub tree_closes : (fault : Option GmlFault) (old new : TreeReader) (b rest text : List ℕ) (k : ℕ) (t : Token) → fault ≡ None → Closes old.state old.fed rest t text k → Takes t.from (said_by t.kind t.from text) old.builder new.builder
+pub tree_closes : (fault : Option GmlFault) (old new : TreeReader) (b rest text : List ℕ) (k : ℕ) (t : Token) → fault ≡ None → Closes old.state old.fed rest t text k → TakesWord t.from (said_by t.kind t.from text) old.builder new.builder
     → new.state ≡ Between → new.fed ≡ old.fed + k → TreeReadsWith fault old b rest → TreeReadsWith fault new b (drop k rest)
 tree_closes (Some f) old new b rest text k t none closes takes state fed r = absurd cc
 tree_closes None old new b rest text k t none closes takes state fed r = rw (state, fed) (tree_more old.builder new.builder b rest text old.state old.fed k t r closes takes)

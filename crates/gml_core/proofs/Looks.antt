@@ -16,8 +16,8 @@ use Rattle.gml_core.specs.declared.pieces.Run.{Run}
 use Rattle.gml_core.specs.declared.pieces.Run.TheVariants as runs
 use Rattle.gml_core.specs.declared.pieces.State.TheVariants.{Inside, Failed}
 use Rattle.gml_core.specs.Bytes.{is_space, ends_line, is_word, is_numeric, number_kind}
-use Rattle.gml_core.specs.Lexing.{gap_from, token, number_at, token_at, found}
-use Rattle.gml_core.specs.Pieces.{after_gap, gap_step, is_quoted, inside, opening, coming, before, behind, Goes, Closes, Ends}
+use Rattle.gml_core.specs.Lexing.{gap_from, token, number_token_at, token_at, found}
+use Rattle.gml_core.specs.Pieces.{after_gap, gap_step, is_quoted, inside_token, opening, coming, before, behind, Goes, Closes, EndsToken}
 use Rattle.gml_core.proofs.Again.{prefix_within}
 
 -- ---- gaps
@@ -107,12 +107,12 @@ take_whole xs k e = ap (λ (n : ℕ). take n xs) e ∙ take-length xs
 -- ---- a token goes on to the end of the rest
 
 inside_goes : (run : Run) (from at k : ℕ) (held rest h : List ℕ) (to : ℕ) → to ≡ at + k → to ≡ from + opening run + length h → 0 < length rest → h ≡ held ++ rest → k ≡ length rest
-    → ((c : List ℕ) → inside run from held (rest ++ c) ≡ inside run from (held ++ rest) c) → Goes (Inside run from held) at rest (Inside run from h) k
+    → ((c : List ℕ) → inside_token run from held (rest ++ c) ≡ inside_token run from (held ++ rest) c) → Goes (Inside run from held) at rest (Inside run from h) k
 unfolding coming
 inside_goes run from at k held rest h to to-is placed positive h-is k-is comes = record {
   progress = omega arith;
   within = omega arith;
-  comes = λ c. comes c ∙ ap (λ (l : List ℕ). inside run from l c) (sym h-is) ∙ ap (λ (l : List ℕ). inside run from h (l ++ c)) (sym (drop_whole rest k k-is));
+  comes = λ c. comes c ∙ ap (λ (l : List ℕ). inside_token run from l c) (sym h-is) ∙ ap (λ (l : List ℕ). inside_token run from h (l ++ c)) (sym (drop_whole rest k k-is));
   left = [];
   bytes = h-is ∙ ap (λ (l : List ℕ). held ++ l) (sym (take_whole rest k k-is));
   placed = sym to-is ∙ placed;
@@ -120,7 +120,7 @@ inside_goes run from at k held rest h to to-is placed positive h-is k-is comes =
 
 -- ---- keys
 
-key_more : (from : ℕ) (held rest c : List ℕ) → prefix_len is_word rest ≡ length rest → inside runs.Key from held (rest ++ c) ≡ inside runs.Key from (held ++ rest) c
+key_more : (from : ℕ) (held rest c : List ℕ) → prefix_len is_word rest ≡ length rest → inside_token runs.Key from held (rest ++ c) ≡ inside_token runs.Key from (held ++ rest) c
 key_more from held rest c e =
     let n : length held + prefix_len is_word (rest ++ c) ≡ length (held ++ rest) + prefix_len is_word c = omega (arith, prefix_all is_word rest c e, length-append held rest) in
     ap (λ (m : ℕ). came (token kinds.Key from m)) n
@@ -148,28 +148,28 @@ key_closes from at k to held rest text at-is lt k-is to-is text-is = record {
 abbrev number_text : List ℕ → ℕ → List ℕ → List ℕ
 number_text held n d = held ++ take n d
 
-number_more : (from : ℕ) (held rest c : List ℕ) → prefix_len is_numeric rest ≡ length rest → inside runs.Number from held (rest ++ c) ≡ inside runs.Number from (held ++ rest) c
+number_more : (from : ℕ) (held rest c : List ℕ) → prefix_len is_numeric rest ≡ length rest → inside_token runs.Number from held (rest ++ c) ≡ inside_token runs.Number from (held ++ rest) c
 number_more from held rest c e =
     let m = prefix_len is_numeric c in
     let all : prefix_len is_numeric (rest ++ c) ≡ length rest + m = prefix_all is_numeric rest c e in
     let n : length held + (length rest + m) ≡ length (held ++ rest) + m = omega (arith, length-append held rest) in
     let text : held ++ take (length rest + m) (rest ++ c) ≡ (held ++ rest) ++ take m c = ap (λ (l : List ℕ). held ++ l) (take-append-add rest c m) ∙ sym (append_assoc held rest (take m c)) in
-    ap (λ (x : ℕ). found (number_at from (length held + x) (number_kind (held ++ take x (rest ++ c))))) all
-    ∙ ap (λ (x : ℕ). found (number_at from x (number_kind (held ++ take (length rest + m) (rest ++ c))))) n
-    ∙ ap (λ (l : List ℕ). found (number_at from (length (held ++ rest) + m) (number_kind l))) text
+    ap (λ (x : ℕ). found (number_token_at from (length held + x) (number_kind (held ++ take x (rest ++ c))))) all
+    ∙ ap (λ (x : ℕ). found (number_token_at from x (number_kind (held ++ take (length rest + m) (rest ++ c))))) n
+    ∙ ap (λ (l : List ℕ). found (number_token_at from (length (held ++ rest) + m) (number_kind l))) text
 
 pub number_goes : (from at k : ℕ) (held rest h : List ℕ) → at ≡ from + 0 + length held → 0 < length rest → prefix_len is_numeric rest ≡ length rest → h ≡ held ++ rest → k ≡ length rest → Goes (Inside runs.Number from held) at rest (Inside runs.Number from h) k
 number_goes from at k held rest h at-is positive all h-is k-is =
     inside_goes runs.Number from at k held rest h (at + k) refl (omega (arith, ap length h-is, length-append held rest)) positive h-is k-is (λ c. number_more from held rest c all)
 
 number_ends : (from k : ℕ) (held rest text c : List ℕ) (o : Option TokenKind) → prefix_len is_numeric rest < length rest → k ≡ prefix_len is_numeric rest → text ≡ held ++ take k rest → number_kind text ≡ o
-    → inside runs.Number from held (rest ++ c) ≡ found (number_at from (length held + k) o)
+    → inside_token runs.Number from held (rest ++ c) ≡ found (number_token_at from (length held + k) o)
 number_ends from k held rest text c o lt k-is text-is kind =
     let n : prefix_len is_numeric (rest ++ c) ≡ k = prefix_within is_numeric rest c lt ∙ sym k-is in
     let own : held ++ take k (rest ++ c) ≡ text = ap (λ (l : List ℕ). held ++ l) (take-append-le k rest c (omega arith)) ∙ sym text-is in
-    ap (λ (x : ℕ). found (number_at from (length held + x) (number_kind (held ++ take x (rest ++ c))))) n
-    ∙ ap (λ (l : List ℕ). found (number_at from (length held + k) (number_kind l))) own
-    ∙ ap (λ (p : Option TokenKind). found (number_at from (length held + k) p)) kind
+    ap (λ (x : ℕ). found (number_token_at from (length held + x) (number_kind (held ++ take x (rest ++ c))))) n
+    ∙ ap (λ (l : List ℕ). found (number_token_at from (length held + k) (number_kind l))) own
+    ∙ ap (λ (p : Option TokenKind). found (number_token_at from (length held + k) p)) kind
 
 plain : (kind : TokenKind) → (kind ≡ kinds.Str → ⊥) → (before kind ≡ 0) × (behind kind ≡ [])
 plain kinds.OpenList h = (refl, refl)
@@ -211,7 +211,7 @@ number_fails from at k n held rest text positive lt n-is text-is none k-is = rec
 abbrev string_of : ℕ → ℕ → Bool → Result (Option Token) GmlFault
 string_of from n closed = cond closed (Ok (Some (token kinds.Str from (n + 2)))) (Err (OpenString from))
 
-quoted_more : (from : ℕ) (held rest c : List ℕ) → prefix_len is_quoted rest ≡ length rest → inside runs.Quoted from held (rest ++ c) ≡ inside runs.Quoted from (held ++ rest) c
+quoted_more : (from : ℕ) (held rest c : List ℕ) → prefix_len is_quoted rest ≡ length rest → inside_token runs.Quoted from held (rest ++ c) ≡ inside_token runs.Quoted from (held ++ rest) c
 quoted_more from held rest c e =
     let m = prefix_len is_quoted c in
     let all : prefix_len is_quoted (rest ++ c) ≡ length rest + m = prefix_all is_quoted rest c e in
@@ -268,7 +268,7 @@ quoted_closes from at n k to held rest text at-is some k-is to-is text-is =
 
 -- ---- the end
 
-pub key_last : (from at : ℕ) (held : List ℕ) → at ≡ from + 0 + length held → Ends (Inside runs.Key from held) at (record { kind = kinds.Key; from = from; to = at }) held
+pub key_last : (from at : ℕ) (held : List ℕ) → at ≡ from + 0 + length held → EndsToken (Inside runs.Key from held) at (record { kind = kinds.Key; from = from; to = at }) held
 unfolding coming
 key_last from at held at-is = record {
   comes = let n : from + (length held + 0) ≡ at = omega arith in ap (λ (m : ℕ). came (record { kind = kinds.Key; from = from; to = m })) n;
@@ -277,10 +277,10 @@ key_last from at held at-is = record {
   bytes = append-nil held;
 }
 
-number_at_end : (from : ℕ) (held text : List ℕ) (o : Option TokenKind) → text ≡ held → number_kind text ≡ o → inside runs.Number from held [] ≡ found (number_at from (length held + 0) o)
-number_at_end from held text o text-is kind = ap (λ (l : List ℕ). found (number_at from (length held + 0) (number_kind l))) (append-nil held ∙ sym text-is) ∙ ap (λ (p : Option TokenKind). found (number_at from (length held + 0) p)) kind
+number_at_end : (from : ℕ) (held text : List ℕ) (o : Option TokenKind) → text ≡ held → number_kind text ≡ o → inside_token runs.Number from held [] ≡ found (number_token_at from (length held + 0) o)
+number_at_end from held text o text-is kind = ap (λ (l : List ℕ). found (number_token_at from (length held + 0) (number_kind l))) (append-nil held ∙ sym text-is) ∙ ap (λ (p : Option TokenKind). found (number_token_at from (length held + 0) p)) kind
 
-pub number_last : (from at : ℕ) (held text : List ℕ) (kind : TokenKind) → at ≡ from + 0 + length held → text ≡ held → number_kind text ≡ Some kind → (kind ≡ kinds.Str → ⊥) → Ends (Inside runs.Number from held) at (record { kind = kind; from = from; to = at }) held
+pub number_last : (from at : ℕ) (held text : List ℕ) (kind : TokenKind) → at ≡ from + 0 + length held → text ≡ held → number_kind text ≡ Some kind → (kind ≡ kinds.Str → ⊥) → EndsToken (Inside runs.Number from held) at (record { kind = kind; from = from; to = at }) held
 unfolding coming
 number_last from at held text kind at-is text-is kind-is other = record {
   comes = let n : from + (length held + 0) ≡ at = omega arith in number_at_end from held text (Some kind) text-is kind-is ∙ ap (λ (m : ℕ). came (record { kind = kind; from = from; to = m })) n;

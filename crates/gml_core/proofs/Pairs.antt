@@ -21,7 +21,7 @@ use Rattle.gml_core.specs.Pieces.{after_gap, first_of, Goes, Closes}
 use Rattle.gml_core.specs.Reading.{number, integer, begin, Moves}
 use Rattle.gml_core.specs.Trees.{int, str, atom, fits, key, value}
 use Rattle.gml_core.specs.Views.{datum}
-use Rattle.gml_core.specs.Building.{words_of, state_of, Takes, IsAtom}
+use Rattle.gml_core.specs.Building.{words_of, state_of, TakesWord, IsAtom}
 use Rattle.gml_core.specs.Readers.{Resumes, BuiltUp}
 use Rattle.gml_core.proofs.Begins.{letter, Begins, begin_quote}
 use Rattle.gml_core.proofs.Looks.{quoted_closes}
@@ -219,7 +219,7 @@ none_taken Upto b rest at n none r = subst (Resumes Upto b rest Between) (add-ze
 
 -- a string is read, of which the first quote is at the front
 pub text_read : (old new : Builder) (b rest text : List ℕ) (at n : ℕ) → 0 < length rest → get_or rest 0 0 ≡ 34 → position (λ x. x == 34) (take (length rest - 1) (drop 1 rest)) ≡ Some n → text ≡ take n (take (length rest - 1) (drop 1 rest))
-    → Takes at (value (str text)) old new → Resumes (BuiltUp old) b rest Between at → Resumes (BuiltUp new) b (drop (n + 2) rest) Between (at + (n + 2))
+    → TakesWord at (value (str text)) old new → Resumes (BuiltUp old) b rest Between at → Resumes (BuiltUp new) b (drop (n + 2) rest) Between (at + (n + 2))
 text_read old new b rest text at n some e quote text-is takes r =
     let inside : State = Inside runs.Quoted at [] in
     let all : take (length rest - 1) (drop 1 rest) ≡ drop 1 rest = take_all (length rest - 1) (drop 1 rest) (omega (arith, length-drop 1 rest)) in

@@ -8,7 +8,7 @@ use Rattle.gml_core.specs.declared.token.TokenKind.{TokenKind}
 use Rattle.gml_core.specs.declared.token.TokenKind.TheVariants as kinds
 use Rattle.gml_core.specs.declared.token.Token.{Token}
 use Rattle.gml_core.specs.Trees.{Atom, int, real, str, Datum, atom, list, Entry, entry, Entries, none, more, Word, opens, closes, key, value, spelling, datum_spelling, depth, datum_depth, entry_depth, fits, all_fit, datum_fits, entry_fits}
-use Rattle.gml_core.specs.Lexing.{gap, token, token_at, next_place, next, first_place, Leads}
+use Rattle.gml_core.specs.Lexing.{gap, token, token_at, next_place, next_token, first_place, Leads}
 use Rattle.gml_core.specs.Reading.{integer, part, word, word_of, IsBounded, IsText}
 use Rattle.gml_core.specs.Printing.{atom_text, datum_text, printed, datum_at_zero, entry_at_zero, at_zero}
 use Rattle.gml_core.specs.Sound.{IsSpelled, IsWellAtom, IsWellDatum, AreWell}
@@ -42,7 +42,7 @@ after_line rest = record { word = refl; number = refl }
 
 -- the token behind a gap, and where it ends
 pub record One (bytes pre g w : List ℕ) (kind : TokenKind) : Type 0 where
-  pub comes : next bytes (length pre) ≡ Ok (Some (token kind (length pre + length g) (length w)))
+  pub comes : next_token bytes (length pre) ≡ Ok (Some (token kind (length pre + length g) (length w)))
   pub ends : length pre + length g + length w ≡ length (pre ++ (g ++ w))
 
 positive : (kind : TokenKind) (w : List ℕ) → token_at 0 w ≡ Ok (token kind 0 (length w)) → 0 < length w
@@ -222,8 +222,8 @@ first_at : (es : Entries) → AreWell es → first_place (printed es) ≡ 0
 first_at none well = refl
 first_at (more (entry k at d) es) well = ap first_place (append_assoc (k ++ 32 ∷ datum_text d) (10 ∷ []) (printed es) ∙ append_assoc k (32 ∷ datum_text d) (10 ∷ printed es)) ∙ first_with k (32 ∷ (datum_text d ++ 10 ∷ printed es)) well.0.0.1
 
-last_end : (bytes read left : List ℕ) → bytes ≡ read ++ (left ++ []) → IsGap left → next bytes (length read) ≡ Ok None
-unfolding next
+last_end : (bytes read left : List ℕ) → bytes ≡ read ++ (left ++ []) → IsGap left → next_token bytes (length read) ≡ Ok None
+unfolding next_token
 last_end bytes read left e gapped =
     let at = length read in
     let here : drop at bytes ≡ left ++ [] = ap (drop at) e ∙ drop_at read (left ++ []) at refl in

@@ -11,8 +11,8 @@ use Rattle.gml_core.specs.declared.token.Token.{Token}
 use Rattle.gml_core.specs.declared.fault.GmlFault.{GmlFault}
 use Rattle.gml_core.specs.Bytes.{is_word, begins_number, is_numeric, number_kind}
 use Rattle.gml_core.specs.Trees.{Entries, spelling}
-use Rattle.gml_core.specs.Lexing.{token, string_at, number_at, token_at, found, next_place, next, first_place, Leads, AreTokens, IsFaultyToken}
-use Rattle.gml_core.specs.Reading.{State, begin, step, word, fault_of, end_in, Moves, IsText, IsFirstFault}
+use Rattle.gml_core.specs.Lexing.{token, string_at, number_token_at, token_at, found, next_place, next_token, first_place, Leads, AreTokens, IsFaultyToken}
+use Rattle.gml_core.specs.Reading.{State, begin, step, word, fault_of, end_fault_in, Moves, IsText, IsFirstFault}
 use Rattle.gml_core.proofs.Cuts.{Leads-push}
 use Rattle.gml_core.proofs.Walks.{moves_bounded}
 use Rattle.gml_core.proofs.SoFar.{Moves-push}
@@ -33,7 +33,7 @@ string_moves : (at : ℕ) (o : Option ℕ) (t : Token) → string_at at o ≡ Ok
 string_moves at (Some n) t e = token_moves kinds.Str at (n + 2) t (omega arith) e
 string_moves at None t e = absurd cc
 
-number_moves : (at len : ℕ) (o : Option TokenKind) (t : Token) → 0 < len → number_at at len o ≡ Ok t → at < t.to
+number_moves : (at len : ℕ) (o : Option TokenKind) (t : Token) → 0 < len → number_token_at at len o ≡ Ok t → at < t.to
 number_moves at len (Some kind) t positive e = token_moves kind at len t positive e
 number_moves at len None t positive e = absurd cc
 
@@ -74,8 +74,8 @@ behind_cond : (bytes : List ℕ) (at : ℕ) (b : Bool) (x y : Result (Option Tok
 behind_cond bytes at true x y h k = h refl
 behind_cond bytes at false x y h k = k
 
-next_behind : (bytes : List ℕ) (at : ℕ) → IsBehind bytes at (next bytes at)
-unfolding next
+next_behind : (bytes : List ℕ) (at : ℕ) → IsBehind bytes at (next_token bytes at)
+unfolding next_token
 next_behind bytes at =
     let from = next_place bytes at in
     behind_cond bytes at (nat_lt from (length bytes)) _ _
@@ -87,7 +87,7 @@ next_behind bytes at =
     })
     (record { moves = λ t e. absurd cc })
 
-pub next_moves : (bytes : List ℕ) (at : ℕ) (t : Token) → next bytes at ≡ Ok (Some t) → (at < t.to) × (at < length bytes)
+pub next_moves : (bytes : List ℕ) (at : ℕ) (t : Token) → next_token bytes at ≡ Ok (Some t) → (at < t.to) × (at < length bytes)
 next_moves bytes at t e = (next_behind bytes at).moves t e
 
 -- ---- the answer
@@ -111,7 +111,7 @@ step_cases : (r : Result State GmlFault) → ((m : State) × (r ≡ Ok m)) ⊎ (
 step_cases (Ok m) = inl (m, refl)
 step_cases (Err f) = inr (f, refl)
 
-end_cases : (w : Option ℕ) (ls : List ℕ) → ((f : GmlFault) × (end_in w ls ≡ Some f)) ⊎ ((w ≡ None) × (ls ≡ []))
+end_cases : (w : Option ℕ) (ls : List ℕ) → ((f : GmlFault) × (end_fault_in w ls ≡ Some f)) ⊎ ((w ≡ None) × (ls ≡ []))
 end_cases (Some k) ls = inl (_, refl)
 end_cases None [] = inr (refl, refl)
 end_cases None (l ∷ ls) = inl (_, refl)
@@ -120,10 +120,10 @@ none_is : (o : Option (List ℕ × ℕ)) → false ≡ is_some o → o ≡ None
 none_is None e = refl
 none_is (Some w) e = absurd cc
 
-faulty : (bytes : List ℕ) (at : ℕ) (r : Read bytes at) (comes : Result (Option Token) GmlFault) (f : GmlFault) → next bytes at ≡ comes → fault_of bytes r.state comes ≡ Some f → Answer bytes
+faulty : (bytes : List ℕ) (at : ℕ) (r : Read bytes at) (comes : Result (Option Token) GmlFault) (f : GmlFault) → next_token bytes at ≡ comes → fault_of bytes r.state comes ≡ Some f → Answer bytes
 faulty bytes at r comes f e fault = inr (f, record { tokens = r.tokens; at = at; state = r.state; leads = r.leads; moves = r.moves; fault = ap (fault_of bytes r.state) e ∙ fault })
 
-whole : (bytes : List ℕ) (at : ℕ) (r : Read bytes at) → next bytes at ≡ Ok None → r.state.waits ≡ None → r.state.lists ≡ [] → Answer bytes
+whole : (bytes : List ℕ) (at : ℕ) (r : Read bytes at) → next_token bytes at ≡ Ok None → r.state.waits ≡ None → r.state.lists ≡ [] → Answer bytes
 whole bytes at r e waits lists =
     let g = grow_all bytes begin r.state r.tokens nothing (record { waits = refl; layers = refl }) r.moves in
     let none = none_is g.after.waits (sym (ap is_some waits) ∙ g.is_in.waits) in
@@ -135,7 +135,7 @@ whole bytes at r e waits lists =
 read_on : (n : ℕ) (bytes : List ℕ) (at : ℕ) → length bytes - at < n → Read bytes at → Answer bytes
 read_on zero bytes at lt r = absurd (omega arith)
 read_on (suc n) bytes at lt r =
-    elim (comes_cases (next bytes at)) [
+    elim (comes_cases (next_token bytes at)) [
       | inl some ↦ elim (step_cases (step bytes r.state some.0)) [
         | inl ok ↦
             let moved = next_moves bytes at some.0 some.1 in
@@ -164,7 +164,7 @@ answer bytes = read_on (suc (length bytes)) bytes (first_place bytes) (omega ari
 cut_on : (n : ℕ) (bytes : List ℕ) (at : ℕ) (ts : List Token) → length bytes - at < n → Leads bytes (first_place bytes) ts at → ((us : List Token) × AreTokens bytes us) ⊎ ((f : GmlFault) × IsFaultyToken bytes f)
 cut_on zero bytes at ts lt leads = absurd (omega arith)
 cut_on (suc n) bytes at ts lt leads =
-    elim (comes_cases (next bytes at)) [
+    elim (comes_cases (next_token bytes at)) [
       | inl some ↦
           let moved = next_moves bytes at some.0 some.1 in
           cut_on n bytes some.0.to (ts ++ some.0 ∷ []) (omega (arith, moved.0, moved.1)) (Leads-push bytes (first_place bytes) at ts some.0 leads some.1)

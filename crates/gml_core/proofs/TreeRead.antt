@@ -16,8 +16,8 @@ use Rattle.gml_core.specs.declared.readers.TreeReader.{TreeReader}
 use Rattle.gml_core.specs.Reading.{word, word_of, said_by, integer, step_at, end_fault, IsText, IsFirstFault}
 use Rattle.gml_core.specs.Trees.{key, value, int, real, str}
 use Rattle.gml_core.specs.Views.{view}
-use Rattle.gml_core.specs.Building.{state_of, Takes, IsFinished}
-use Rattle.gml_core.specs.Pieces.{coming, held_of, IsPlaced, before, behind, Closes, Ends}
+use Rattle.gml_core.specs.Building.{state_of, TakesWord, IsFinished}
+use Rattle.gml_core.specs.Pieces.{coming, held_of, IsPlaced, before, behind, Closes, EndsToken}
 use Rattle.gml_core.specs.Readers.{Resumes, IsRead, BuiltUp, TreeReadsWith}
 use Rattle.gml_core.proofs.Again.{part_is}
 use Rattle.gml_core.proofs.SoFar.{read_takes, read_refuses, read_fault, read_text}
@@ -46,7 +46,7 @@ closes_word Upto b rest text s at k t r sees c =
     regroup : (f h x y z : List ℕ) → (f ++ (h ++ (x ++ y))) ++ z ≡ f ++ ((h ++ x) ++ (y ++ z))
     regroup f h x y z = simp append_assoc
 
-ends_word : (Upto : List ℕ → ℕ → Type 0) (b text : List ℕ) (s : State) (at : ℕ) (t : Token) → Resumes Upto b [] s at → Ends s at t text → word b t ≡ said_by t.kind t.from text
+ends_word : (Upto : List ℕ → ℕ → Type 0) (b text : List ℕ) (s : State) (at : ℕ) (t : Token) → Resumes Upto b [] s at → EndsToken s at t text → word b t ≡ said_by t.kind t.from text
 ends_word Upto b text s at t r ends =
     let all : b ≡ r.front ++ (text ++ (behind t.kind ++ [])) =
     r.bytes ∙ ap (λ (l : List ℕ). r.front ++ (l ++ [])) (sym ends.bytes) ∙ ap (λ (l : List ℕ). r.front ++ l) (append_assoc text (behind t.kind) []) in
@@ -54,7 +54,7 @@ ends_word Upto b text s at t r ends =
 
 -- ---- one token more
 
-pub tree_more : (old new : Builder) (b rest text : List ℕ) (s : State) (at k : ℕ) (t : Token) → Resumes (BuiltUp old) b rest s at → Closes s at rest t text k → Takes t.from (said_by t.kind t.from text) old new → Resumes (BuiltUp new) b (drop k rest) Between (at + k)
+pub tree_more : (old new : Builder) (b rest text : List ℕ) (s : State) (at k : ℕ) (t : Token) → Resumes (BuiltUp old) b rest s at → Closes s at rest t text k → TakesWord t.from (said_by t.kind t.from text) old new → Resumes (BuiltUp new) b (drop k rest) Between (at + k)
 tree_more old new b rest text s at k t r sees takes =
     closes (BuiltUp old) (BuiltUp new) b rest text s at k t r sees
     (λ c place read comes. read_takes (b ++ c) old new place t (said_by t.kind t.from text) read comes (closes_word (BuiltUp old) b rest text s at k t r sees c) takes)
@@ -79,22 +79,22 @@ tree_ends old b s at t r e finished = let h = ending (BuiltUp old) b s at r in r
 pub tree_end_fails : (old : Builder) (b : List ℕ) (s : State) (at : ℕ) (f : GmlFault) → Resumes (BuiltUp old) b [] s at → coming s at [] ≡ Ok None → end_fault (state_of old) ≡ Some f → IsFirstFault b f
 tree_end_fails old b s at f r e fault = let h = ending (BuiltUp old) b s at r in read_fault b old h.0 (Ok None) f h.1 (h.2 ∙ e) fault
 
-pub last_refused : (old : Builder) (b text : List ℕ) (s : State) (at : ℕ) (t : Token) (f : GmlFault) → Resumes (BuiltUp old) b [] s at → Ends s at t text → step_at (state_of old) t.from (said_by t.kind t.from text) ≡ Err f → IsFirstFault b f
+pub last_refused : (old : Builder) (b text : List ℕ) (s : State) (at : ℕ) (t : Token) (f : GmlFault) → Resumes (BuiltUp old) b [] s at → EndsToken s at t text → step_at (state_of old) t.from (said_by t.kind t.from text) ≡ Err f → IsFirstFault b f
 last_refused old b text s at t f r ends fails =
     let h = ending (BuiltUp old) b s at r in
     read_refuses b old h.0 t (said_by t.kind t.from text) f h.1 (h.2 ∙ ends.comes) (ends_word (BuiltUp old) b text s at t r ends) fails
 
 -- all is read with the last token
-last_read : (old new : Builder) (b text : List ℕ) (s : State) (at : ℕ) (t : Token) → Resumes (BuiltUp old) b [] s at → Ends s at t text → Takes t.from (said_by t.kind t.from text) old new → IsRead b new (length b)
+last_read : (old new : Builder) (b text : List ℕ) (s : State) (at : ℕ) (t : Token) → Resumes (BuiltUp old) b [] s at → EndsToken s at t text → TakesWord t.from (said_by t.kind t.from text) old new → IsRead b new (length b)
 last_read old new b text s at t r ends takes =
     let h = ending (BuiltUp old) b s at r in
     let to : t.to ≡ length b = ends.to ∙ length_is (BuiltUp old) b s at r in
     subst (IsRead b new) to (read_takes b old new h.0 t (said_by t.kind t.from text) h.1 (h.2 ∙ ends.comes) (ends_word (BuiltUp old) b text s at t r ends) takes)
 
-pub last_ends : (old new : Builder) (b text : List ℕ) (s : State) (at : ℕ) (t : Token) (tree : Tree) → Resumes (BuiltUp old) b [] s at → Ends s at t text → Takes t.from (said_by t.kind t.from text) old new → IsFinished new tree → IsText b (view tree)
+pub last_ends : (old new : Builder) (b text : List ℕ) (s : State) (at : ℕ) (t : Token) (tree : Tree) → Resumes (BuiltUp old) b [] s at → EndsToken s at t text → TakesWord t.from (said_by t.kind t.from text) old new → IsFinished new tree → IsText b (view tree)
 last_ends old new b text s at t tree r ends takes finished = read_text b new (length b) tree (last_read old new b text s at t r ends takes) (none_behind b) finished
 
-pub last_end_fails : (old new : Builder) (b text : List ℕ) (s : State) (at : ℕ) (t : Token) (f : GmlFault) → Resumes (BuiltUp old) b [] s at → Ends s at t text → Takes t.from (said_by t.kind t.from text) old new → end_fault (state_of new) ≡ Some f → IsFirstFault b f
+pub last_end_fails : (old new : Builder) (b text : List ℕ) (s : State) (at : ℕ) (t : Token) (f : GmlFault) → Resumes (BuiltUp old) b [] s at → EndsToken s at t text → TakesWord t.from (said_by t.kind t.from text) old new → end_fault (state_of new) ≡ Some f → IsFirstFault b f
 last_end_fails old new b text s at t f r ends takes fault = read_fault b new (length b) (Ok None) f (last_read old new b text s at t r ends takes) (none_behind b) fault
 
 -- ---- a reader, before a fault or behind one

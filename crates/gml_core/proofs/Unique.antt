@@ -4,7 +4,7 @@ use Rattle.std.proofs.lemmas.Option.{none-some}
 use Rattle.gml_core.specs.declared.token.Token.{Token}
 use Rattle.gml_core.specs.declared.fault.GmlFault.{GmlFault}
 use Rattle.gml_core.specs.Trees.{Datum, atom, list, entry, Entries, none, more, Word, opens, closes, key, value, spelling, datum_spelling}
-use Rattle.gml_core.specs.Lexing.{next, first_place, Leads, AreTokens, IsFaultyToken}
+use Rattle.gml_core.specs.Lexing.{next_token, first_place, Leads, AreTokens, IsFaultyToken}
 use Rattle.gml_core.specs.Reading.{State, begin, step, word, fault_of, err_of, Moves, IsText, IsFirstFault}
 use Rattle.gml_core.proofs.Walks.{text_moves}
 
@@ -53,12 +53,12 @@ Ends (Ok None) = Unit {0}
 Ends (Ok (Some t)) = ⊥
 Ends (Err f) = Unit {0}
 
-pub same_tokens : (bytes : List ℕ) (at e d : ℕ) (ts us : List Token) → Leads bytes at ts e → Leads bytes at us d → Ends (next bytes e) → Ends (next bytes d) → (ts ≡ us) × (e ≡ d)
+pub same_tokens : (bytes : List ℕ) (at e d : ℕ) (ts us : List Token) → Leads bytes at ts e → Leads bytes at us d → Ends (next_token bytes e) → Ends (next_token bytes d) → (ts ≡ us) × (e ≡ d)
 same_tokens bytes at e d [] [] p q x y = (refl, sym p ∙ q)
-same_tokens bytes at e d [] (u ∷ us) p q x y = absurd (subst Ends (ap (next bytes) (sym p) ∙ q.0) x)
-same_tokens bytes at e d (t ∷ ts) [] p q x y = absurd (subst Ends (ap (next bytes) (sym q) ∙ p.0) y)
+same_tokens bytes at e d [] (u ∷ us) p q x y = absurd (subst Ends (ap (next_token bytes) (sym p) ∙ q.0) x)
+same_tokens bytes at e d (t ∷ ts) [] p q x y = absurd (subst Ends (ap (next_token bytes) (sym q) ∙ p.0) y)
 same_tokens bytes at e d (t ∷ ts) (u ∷ us) p q x y =
-    let same = some_is t u (next bytes at) p.0 q.0 in
+    let same = some_is t u (next_token bytes at) p.0 q.0 in
     let others = same_tokens bytes t.to e d ts us p.1 (subst (λ (v : Token). Leads bytes v.to us d) (sym same) q.1) x y in
     ((λ i. same i ∷ others.0 i), others.1)
 
@@ -86,16 +86,16 @@ state_is : (m n : State) (r : Result State GmlFault) → r ≡ Ok m → r ≡ Ok
 state_is m n r a b = let both = sym a ∙ b in cc
 
 pub same_stop : (bytes : List ℕ) (at e d : ℕ) (s m n : State) (ts us : List Token) → Leads bytes at ts e → Moves bytes s ts m → Leads bytes at us d → Moves bytes s us n
-    → Stops bytes m (next bytes e) → Stops bytes n (next bytes d) → (e ≡ d) × (m ≡ n)
+    → Stops bytes m (next_token bytes e) → Stops bytes n (next_token bytes d) → (e ≡ d) × (m ≡ n)
 same_stop bytes at e d s m n [] [] p a q b x y = (sym p ∙ q, sym a ∙ b)
 same_stop bytes at e d s m n [] (u ∷ us) p a q b x y =
-    let stop = subst (Stops bytes m) (ap (next bytes) (sym p) ∙ q.0) x in
+    let stop = subst (Stops bytes m) (ap (next_token bytes) (sym p) ∙ q.0) x in
     absurd (ok_not_err (step bytes m u) b.0 stop.0 (ap (λ (z : State). step bytes z u) (sym a) ∙ b.1) stop.1)
 same_stop bytes at e d s m n (t ∷ ts) [] p a q b x y =
-    let stop = subst (Stops bytes n) (ap (next bytes) (sym q) ∙ p.0) y in
+    let stop = subst (Stops bytes n) (ap (next_token bytes) (sym q) ∙ p.0) y in
     absurd (ok_not_err (step bytes n t) a.0 stop.0 (ap (λ (z : State). step bytes z t) (sym b) ∙ a.1) stop.1)
 same_stop bytes at e d s m n (t ∷ ts) (u ∷ us) p a q b x y =
-    let same = some_is t u (next bytes at) p.0 q.0 in
+    let same = some_is t u (next_token bytes at) p.0 q.0 in
     let to = state_is a.0 b.0 (step bytes s t) a.1 (ap (step bytes s) same ∙ b.1) in
     same_stop bytes t.to e d a.0 m n ts us p.1 a.2 (subst (λ (v : Token). Leads bytes v.to us d) (sym same) q.1) (subst (λ (z : State). Moves bytes z us n) (sym to) b.2) x y
 
@@ -110,12 +110,12 @@ one_list bytes ts us a b = (same_tokens bytes (first_place bytes) a.0 b.0 ts us 
 pub one_faulty : (bytes : List ℕ) (f g : GmlFault) → IsFaultyToken bytes f → IsFaultyToken bytes g → f ≡ g
 one_faulty bytes f g a b =
     let same = same_tokens bytes (first_place bytes) a.1 b.1 a.0 b.0 a.2 b.2 (subst Ends (sym a.3) tt) (subst Ends (sym b.3) tt) in
-    err_same (next bytes a.1) f g a.3 (ap (next bytes) same.1 ∙ b.3)
+    err_same (next_token bytes a.1) f g a.3 (ap (next_token bytes) same.1 ∙ b.3)
 
 pub not_both_cuts : (bytes : List ℕ) (ts : List Token) (f : GmlFault) → AreTokens bytes ts → IsFaultyToken bytes f → ⊥
 not_both_cuts bytes ts f a b =
     let same = same_tokens bytes (first_place bytes) a.0 b.1 ts b.0 a.1 b.2 (subst Ends (sym a.2) tt) (subst Ends (sym b.3) tt) in
-    let both = sym a.2 ∙ ap (next bytes) same.1 ∙ b.3 in
+    let both = sym a.2 ∙ ap (next_token bytes) same.1 ∙ b.3 in
     absurd cc
 
 pub one_tree : (bytes : List ℕ) (t u : Entries) → IsText bytes t → IsText bytes u → t ≡ u
@@ -128,12 +128,12 @@ fault_same o f g a b = let both = sym a ∙ b in cc
 
 pub one_first : (bytes : List ℕ) (f g : GmlFault) → IsFirstFault bytes f → IsFirstFault bytes g → f ≡ g
 one_first bytes f g a b =
-    let same = same_stop bytes (first_place bytes) a.at b.at begin a.state b.state a.tokens b.tokens a.leads a.moves b.leads b.moves (stops_from bytes a.state (next bytes a.at) f a.fault) (stops_from bytes b.state (next bytes b.at) g b.fault) in
-    fault_same (fault_of bytes a.state (next bytes a.at)) f g a.fault ((λ i. fault_of bytes (same.1 i) (next bytes (same.0 i))) ∙ b.fault)
+    let same = same_stop bytes (first_place bytes) a.at b.at begin a.state b.state a.tokens b.tokens a.leads a.moves b.leads b.moves (stops_from bytes a.state (next_token bytes a.at) f a.fault) (stops_from bytes b.state (next_token bytes b.at) g b.fault) in
+    fault_same (fault_of bytes a.state (next_token bytes a.at)) f g a.fault ((λ i. fault_of bytes (same.1 i) (next_token bytes (same.0 i))) ∙ b.fault)
 
 pub not_both : (bytes : List ℕ) (t : Entries) (f : GmlFault) → IsText bytes t → IsFirstFault bytes f → ⊥
 not_both bytes t f a b =
     let moves = text_moves bytes t a.tokens a.bounded a.spelled in
-    let same = same_stop bytes (first_place bytes) a.cut.0 b.at begin begin b.state a.tokens b.tokens a.cut.1 moves b.leads b.moves (subst (Stops bytes begin) (sym a.cut.2) tt) (stops_from bytes b.state (next bytes b.at) f b.fault) in
-    let nothing : None ≡ Some f = sym (ap (fault_of bytes begin) a.cut.2) ∙ (λ i. fault_of bytes (same.1 i) (next bytes (same.0 i))) ∙ b.fault in
+    let same = same_stop bytes (first_place bytes) a.cut.0 b.at begin begin b.state a.tokens b.tokens a.cut.1 moves b.leads b.moves (subst (Stops bytes begin) (sym a.cut.2) tt) (stops_from bytes b.state (next_token bytes b.at) f b.fault) in
+    let nothing : None ≡ Some f = sym (ap (fault_of bytes begin) a.cut.2) ∙ (λ i. fault_of bytes (same.1 i) (next_token bytes (same.0 i))) ∙ b.fault in
     none-some f nothing

@@ -13,7 +13,7 @@ use Rattle.gml_core.specs.declared.token.Token.{Token}
 use Rattle.gml_core.specs.declared.fault.GmlFault.{GmlFault}
 use Rattle.gml_core.specs.declared.fault.GmlFault.TheVariants.{BadByte}
 use Rattle.gml_core.specs.Bytes.{is_word, begins_number, is_numeric, unsigned, digits, behind_digits, number_kind}
-use Rattle.gml_core.specs.Lexing.{gap, token, string_at, number_at, token_at, found, next_place, next, first_place, Leads}
+use Rattle.gml_core.specs.Lexing.{gap, token, string_at, number_token_at, token_at, found, next_place, next_token, first_place, Leads}
 use Rattle.gml_core.specs.Trees.{Datum, atom, list, Entry, entry, Entries, none, more, Word, opens, closes, key, value, spelling, entry_spelling, datum_spelling}
 use Rattle.gml_core.specs.Reading.{part, word_of, word, IsText}
 use Rattle.gml_core.specs.Sound.{IsSpelled, IsWellAtom, IsWellDatum, IsWellEntry, AreWell}
@@ -53,7 +53,7 @@ number_is : (run : List ℕ) → number_kind run ≡ Some kinds.Str → ⊥
 unfolding number_kind
 number_is run e = behind_is (digits (unsigned run)) (drop (digits (unsigned run)) (unsigned run)) e
 
-number_no : (b len : ℕ) (bs : List ℕ) (n : ℕ) (o : Option TokenKind) → (o ≡ Some kinds.Str → ⊥) → IsString b len bs (number_at 0 n o)
+number_no : (b len : ℕ) (bs : List ℕ) (n : ℕ) (o : Option TokenKind) → (o ≡ Some kinds.Str → ⊥) → IsString b len bs (number_token_at 0 n o)
 number_no b len bs n (Some k) h = no_string b len bs k n (λ e. h (ap Some e))
 number_no b len bs n None h = record { string = λ e. absurd cc }
 
@@ -102,8 +102,8 @@ by_alone : (bytes : List ℕ) (b : Bool) (x y : Result (Option Token) GmlFault) 
 by_alone bytes true x y h k = h
 by_alone bytes false x y h k = k
 
-next_alone : (bytes : List ℕ) (at : ℕ) → IsAlone bytes (next bytes at)
-unfolding next
+next_alone : (bytes : List ℕ) (at : ℕ) → IsAlone bytes (next_token bytes at)
+unfolding next_token
 next_alone bytes at =
     let from = next_place bytes at in
     by_alone bytes (nat_lt from (length bytes)) _ _

@@ -1,10 +1,10 @@
 -- What a reader of tokens keeps: the words that it took, and the state after them.
---   open_words fs ps       the words of the lists that are open
---   words_of b             the words that a builder took
---   state_of b             the state after them
---   Takes at w old new     the word at this place is taken
---   IsAtom w v             the value is what the word says
---   IsFinished b t         the words are those of the tree, and nothing is left open
+--   open_words fs ps        the words of the lists that are open
+--   words_of b              the words that a builder took
+--   state_of b              the state after them
+--   TakesWord at w old new  the word at this place is taken
+--   IsAtom w v              the value is what the word says
+--   IsFinished b t          the words are those of the tree, and nothing is left open
 use Rattle.std.specs.Prelude.{◌≡◌, ℕ, List, [], ◌∷◌, ◌++◌, map, reverse, take, drop, true, Option, Some, None, Ok}
 use Rattle.gml_core.specs.declared.tree.Value.{Value}
 use Rattle.gml_core.specs.declared.tree.Pair.{Pair}
@@ -40,7 +40,7 @@ abbrev pub state_of : Builder → State
 state_of b = record { waits = waiting_place b.waits; lists = places b.stack.items }
 
 -- a word is taken, at a place
-pub record Takes (at : ℕ) (w : Word) (old new : Builder) : Type 0 where
+pub record TakesWord (at : ℕ) (w : Word) (old new : Builder) : Type 0 where
   pub words : words_of new ≡ words_of old ++ w ∷ []
   pub state : step_at (state_of old) at w ≡ Ok (state_of new)
 

@@ -2,7 +2,7 @@
 -- first byte and `to` of the byte behind it.
 --   gap bs                   how many bytes of white space and comments are at the front
 --   token_at at bs           the token at the front of bytes that lie at a place, or its fault: one row a first byte
---   next bytes at            what comes from a place on: a token, its fault, or nothing at the end
+--   next_token bytes at      what comes from a place on: a token, its fault, or nothing at the end
 --   first_place bytes        where reading begins: behind a byte order mark
 --   Leads bytes at ts to     these tokens follow one another from one place up to another
 --   AreTokens bytes ts       the bytes are these tokens
@@ -34,9 +34,9 @@ abbrev pub string_at : ℕ → Option ℕ → Result Token GmlFault
 string_at at (Some n) = Ok (token Str at (n + 2))
 string_at at None = Err (OpenString at)
 
-abbrev pub number_at : ℕ → ℕ → Option TokenKind → Result Token GmlFault
-number_at at len (Some kind) = Ok (token kind at len)
-number_at at len None = Err (BadNumber at)
+abbrev pub number_token_at : ℕ → ℕ → Option TokenKind → Result Token GmlFault
+number_token_at at len (Some kind) = Ok (token kind at len)
+number_token_at at len None = Err (BadNumber at)
 
 -- the token at the front of the bytes, which lie at this place, or its fault
 unfoldable pub token_at : ℕ → List ℕ → Result Token GmlFault
@@ -46,7 +46,7 @@ token_at at (b ∷ bs) =
     else (if b == 93 then Ok (token CloseList at 1)
     else (if b == 34 then string_at at (position (λ x. x == 34) bs)
     else (if is_ascii_alphabetic b then Ok (token Key at (prefix_len is_word bs + 1))
-    else (if begins_number b then number_at at (prefix_len is_numeric (b ∷ bs)) (number_kind (take (prefix_len is_numeric (b ∷ bs)) (b ∷ bs)))
+    else (if begins_number b then number_token_at at (prefix_len is_numeric (b ∷ bs)) (number_kind (take (prefix_len is_numeric (b ∷ bs)) (b ∷ bs)))
     else Err (BadByte at)))))
 
 abbrev pub found : Result Token GmlFault → Result (Option Token) GmlFault
@@ -58,8 +58,8 @@ abbrev pub next_place : List ℕ → ℕ → ℕ
 next_place bytes at = at + gap (drop at bytes)
 
 -- the next token from a place on, or its fault, or nothing at the end
-unfoldable pub next : List ℕ → ℕ → Result (Option Token) GmlFault
-next bytes at =
+unfoldable pub next_token : List ℕ → ℕ → Result (Option Token) GmlFault
+next_token bytes at =
     if nat_lt (next_place bytes at) (length bytes) then found (token_at (next_place bytes at) (drop (next_place bytes at) bytes)) else Ok None
 
 -- behind a byte order mark
@@ -76,15 +76,15 @@ pub record IsWithin (bytes : List ℕ) (t : Token) : Type 0 where
 -- the tokens that follow one another from one place up to another
 abbrev pub Leads : List ℕ → ℕ → List Token → ℕ → Type 0
 Leads bytes at [] to = at ≡ to
-Leads bytes at (t ∷ ts) to = (next bytes at ≡ Ok (Some t)) × Leads bytes t.to ts to
+Leads bytes at (t ∷ ts) to = (next_token bytes at ≡ Ok (Some t)) × Leads bytes t.to ts to
 
 -- the bytes are these tokens
 abbrev pub AreTokens : List ℕ → List Token → Type 0
-AreTokens bytes ts = (end : ℕ) × Leads bytes (first_place bytes) ts end × (next bytes end ≡ Ok None)
+AreTokens bytes ts = (end : ℕ) × Leads bytes (first_place bytes) ts end × (next_token bytes end ≡ Ok None)
 
 -- the first token that is faulty by itself has this fault
 abbrev pub IsFaultyToken : List ℕ → GmlFault → Type 0
-IsFaultyToken bytes f = (ts : List Token) × (at : ℕ) × Leads bytes (first_place bytes) ts at × (next bytes at ≡ Err f)
+IsFaultyToken bytes f = (ts : List Token) × (at : ℕ) × Leads bytes (first_place bytes) ts at × (next_token bytes at ≡ Err f)
 
 -- a token can have this fault by itself
 abbrev pub IsTokenFault : GmlFault → Type 0

@@ -23,7 +23,7 @@ use Rattle.gml_core.specs.declared.pieces.Seen.{Seen}
 use Rattle.gml_core.specs.declared.pieces.Seen.TheVariants.{More, Whole}
 use Rattle.gml_core.specs.declared.pieces.Last.{Last}
 use Rattle.gml_core.specs.Bytes.{is_word, begins_number, is_numeric, is_space, ends_line, number_kind}
-use Rattle.gml_core.specs.Lexing.{gap_from, token, token_at, number_at, found}
+use Rattle.gml_core.specs.Lexing.{gap_from, token, token_at, number_token_at, found}
 
 -- what comes behind a gap, from a place on
 unfoldable pub after_gap : Bool → ℕ → List ℕ → Result (Option Token) GmlFault
@@ -63,10 +63,10 @@ abbrev pub quoted : ℕ → ℕ → List ℕ → Result (Option Token) GmlFault
 quoted from n d = if nat_lt (prefix_len is_quoted d) (length d) then Ok (Some (token kinds.Str from (n + prefix_len is_quoted d + 2))) else Err (OpenString from)
 
 -- in a token that begins at a place, of which some bytes are held
-abbrev pub inside : Run → ℕ → List ℕ → List ℕ → Result (Option Token) GmlFault
-inside runs.Key from held d = Ok (Some (token kinds.Key from (length held + prefix_len is_word d)))
-inside runs.Number from held d = found (number_at from (length held + prefix_len is_numeric d) (number_kind (held ++ take (prefix_len is_numeric d) d)))
-inside runs.Quoted from held d = quoted from (length held) d
+abbrev pub inside_token : Run → ℕ → List ℕ → List ℕ → Result (Option Token) GmlFault
+inside_token runs.Key from held d = Ok (Some (token kinds.Key from (length held + prefix_len is_word d)))
+inside_token runs.Number from held d = found (number_token_at from (length held + prefix_len is_numeric d) (number_kind (held ++ take (prefix_len is_numeric d) d)))
+inside_token runs.Quoted from held d = quoted from (length held) d
 
 -- what comes in this state, where these bytes are all that is left
 unfoldable pub coming : State → ℕ → List ℕ → Result (Option Token) GmlFault
@@ -75,7 +75,7 @@ coming MarkOne at d = after_one at d
 coming MarkTwo at d = after_two at d
 coming Between at d = after_gap false at d
 coming Comment at d = after_gap true at d
-coming (Inside run from held) at d = inside run from held d
+coming (Inside run from held) at d = inside_token run from held d
 coming (Failed fault) at d = Err fault
 
 abbrev pub held_of : State → List ℕ
@@ -150,7 +150,7 @@ Sees state at rest (More new k) = Goes state at rest new k
 Sees state at rest (Whole t held n k) = (n ≤ length rest) × Closes state at rest t (text_of held (take n rest)) k
 
 -- the end of the bytes ends this token, of this text
-pub record Ends (old : State) (at : ℕ) (t : Token) (text : List ℕ) : Type 0 where
+pub record EndsToken (old : State) (at : ℕ) (t : Token) (text : List ℕ) : Type 0 where
   pub comes : coming old at [] ≡ Ok (Some t)
   pub to : t.to ≡ at
   pub from : t.from + before t.kind + length (held_of old) ≡ at
@@ -158,4 +158,4 @@ pub record Ends (old : State) (at : ℕ) (t : Token) (text : List ℕ) : Type 0 
 
 abbrev pub IsLast : State → ℕ → Option Last → Type 0
 IsLast state at None = coming state at [] ≡ Ok None
-IsLast state at (Some l) = Ends state at l.token l.text
+IsLast state at (Some l) = EndsToken state at l.token l.text

@@ -12,7 +12,7 @@ use Rattle.gml_core.specs.declared.fault.GmlFault.{GmlFault}
 use Rattle.gml_core.specs.declared.parsing.Builder.{Builder}
 use Rattle.gml_core.specs.declared.readers.TokenReader.{TokenReader}
 use Rattle.gml_core.specs.declared.readers.TreeReader.{TreeReader}
-use Rattle.gml_core.specs.Lexing.{next, first_place, Leads}
+use Rattle.gml_core.specs.Lexing.{next_token, first_place, Leads}
 use Rattle.gml_core.specs.Reading.{begin, word, Moves, IsFirstFault}
 use Rattle.gml_core.specs.Building.{words_of, state_of}
 use Rattle.gml_core.specs.Pieces.{coming, held_of, IsPlaced}
@@ -23,7 +23,7 @@ pub record Resumes (Upto : List ℕ → ℕ → Type 0) (b rest : List ℕ) (sta
   pub bytes : b ≡ front ++ (held_of state ++ rest)
   pub ends : at ≡ length front + length (held_of state)
   pub placed : IsPlaced state at
-  pub comes : (c : List ℕ) → (place : ℕ) × Upto (b ++ c) place × (next (b ++ c) place ≡ coming state at (rest ++ c))
+  pub comes : (c : List ℕ) → (place : ℕ) × Upto (b ++ c) place × (next_token (b ++ c) place ≡ coming state at (rest ++ c))
 
 -- these tokens lead up to a place
 abbrev pub LeadUp : List Token → List ℕ → ℕ → Type 0

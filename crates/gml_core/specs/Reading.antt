@@ -19,7 +19,7 @@ use Rattle.gml_core.specs.declared.token.Token.{Token}
 use Rattle.gml_core.specs.declared.fault.GmlFault.{GmlFault}
 use Rattle.gml_core.specs.declared.fault.GmlFault.TheVariants.{BigNumber, NoValue, Unclosed, Stray, TooDeep}
 use Rattle.gml_core.specs.Bytes.{unsigned}
-use Rattle.gml_core.specs.Lexing.{next, first_place, Leads, AreTokens}
+use Rattle.gml_core.specs.Lexing.{next_token, first_place, Leads, AreTokens}
 use Rattle.gml_core.specs.Trees.{int, real, str, Entries, Word, opens, closes, key, value, spelling, depth, max_depth, fits, all_fit}
 
 -- ---- what tokens say
@@ -106,14 +106,14 @@ step_at s at w = step_in s.waits s.lists at w
 unfoldable pub step : List ℕ → State → Token → Result State GmlFault
 step bytes s t = step_in s.waits s.lists t.from (word bytes t)
 
-abbrev pub end_in : Option ℕ → List ℕ → Option GmlFault
-end_in (Some k) lists = Some (NoValue k)
-end_in None [] = None
-end_in None (l ∷ ls) = Some (Unclosed l)
+abbrev pub end_fault_in : Option ℕ → List ℕ → Option GmlFault
+end_fault_in (Some k) lists = Some (NoValue k)
+end_fault_in None [] = None
+end_fault_in None (l ∷ ls) = Some (Unclosed l)
 
 -- the fault where the text ends
 abbrev pub end_fault : State → Option GmlFault
-end_fault s = end_in s.waits s.lists
+end_fault s = end_fault_in s.waits s.lists
 
 abbrev pub err_of : Result State GmlFault → Option GmlFault
 err_of (Ok s) = None
@@ -136,4 +136,4 @@ pub record IsFirstFault (bytes : List ℕ) (f : GmlFault) : Type 0 where
   pub state : State
   pub leads : Leads bytes (first_place bytes) tokens at
   pub moves : Moves bytes begin tokens state
-  pub fault : fault_of bytes state (next bytes at) ≡ Some f
+  pub fault : fault_of bytes state (next_token bytes at) ≡ Some f

@@ -4,7 +4,7 @@ ghost use Rattle.std.specs.Prelude.{◌≡◌, ℕ, ◌++◌, ◌∷◌, [], Lis
 ghost use Rattle.gml_core.specs.declared.token.Token.{Token};
 ghost use Rattle.gml_core.specs.declared.fault.GmlFault.{GmlFault};
 ghost use Rattle.gml_core.specs.Trees.{Entries, Word, spelling};
-ghost use Rattle.gml_core.specs.Lexing.{next, AreTokens, IsFaultyToken};
+ghost use Rattle.gml_core.specs.Lexing.{next_token, AreTokens, IsFaultyToken};
 ghost use Rattle.gml_core.specs.Reading.{word, State, begin, Moves, IsBounded, IsText, IsFirstFault};
 
 /// All bytes have exactly one of a list of tokens and a faulty token.
@@ -28,9 +28,9 @@ pub fn one_answer()
 /// This is said of tokens. Bytes may go on otherwise: `x 1e` is faulty, and `x 1e5` is a text.
 pub fn none_goes_on()
     ensures token { (bytes : List ℕ) (f : GmlFault) (first : IsFirstFault bytes f) (t : Token) (others : List Word) (tree : Entries)
-        → next bytes first.at ≡ Ok (Some t) → IsBounded tree → spelling tree ≡ map (word bytes) (first.tokens ++ t ∷ []) ++ others → ⊥ }
+        → next_token bytes first.at ≡ Ok (Some t) → IsBounded tree → spelling tree ≡ map (word bytes) (first.tokens ++ t ∷ []) ++ others → ⊥ }
     ensures end { (bytes : List ℕ) (f : GmlFault) (first : IsFirstFault bytes f) (tree : Entries)
-        → next bytes first.at ≡ Ok None → IsBounded tree → spelling tree ≡ map (word bytes) first.tokens → ⊥ }
+        → next_token bytes first.at ≡ Ok None → IsBounded tree → spelling tree ≡ map (word bytes) first.tokens → ⊥ }
 {}
 
 /// The first fault is not late: the tokens before it, each of which is taken, begin the text of some tree.

@@ -51,7 +51,7 @@ pub struct Builder {
 }
 
 impl Builder {
-    ghost use Rattle.gml_core.specs.Building.{state_of, Takes, IsAtom, IsFinished};
+    ghost use Rattle.gml_core.specs.Building.{state_of, TakesWord, IsAtom, IsFinished};
 
     pub fn new(alloc: Global) -> Builder
         ensures stack { result.stack.items ≡ [] }
@@ -69,7 +69,7 @@ impl Builder {
     #[inline(always)]
     pub(crate) fn close(&mut self, alloc: Global, at: u32) -> Result<(), GmlFault>
         requires { self.old.waits ≡ None }
-        ensures ok { OnOk result (Takes at closes self.old self.new) }
+        ensures ok { OnOk result (TakesWord at closes self.old self.new) }
         ensures err { IfErr result (λ e. e ≢ GmlFault.NoMemory → step_at (state_of self.old) at closes ≡ Err e) }
     {
         match self.stack.pop() {
@@ -87,7 +87,7 @@ impl Builder {
     /// Keeps a key until its value comes.
     fn wait(&mut self, alloc: Global, at: u32, text: &[u8]) -> Result<(), GmlFault>
         requires { self.old.waits ≡ None }
-        ensures ok { OnOk result (Takes at (key text.now at) self.old self.new) }
+        ensures ok { OnOk result (TakesWord at (key text.now at) self.old self.new) }
         ensures err { IfErr result (λ e. e ≡ GmlFault.NoMemory) }
     {
         let key = text_of(alloc, text)?;
@@ -106,7 +106,7 @@ impl Builder {
         text: &[u8],
     ) -> Result<(), GmlFault>
         requires { self.old.waits ≡ None }
-        ensures ok { OnOk result (Takes at (said_by kind at text.now) self.old self.new) }
+        ensures ok { OnOk result (TakesWord at (said_by kind at text.now) self.old self.new) }
         ensures err { IfErr result (λ e. e ≢ GmlFault.NoMemory → step_at (state_of self.old) at (said_by kind at text.now) ≡ Err e) }
     {
         match kind {
@@ -120,7 +120,7 @@ impl Builder {
     #[inline(always)]
     pub(crate) fn begin(&mut self, waiting: Waiting, at: u32) -> Result<(), GmlFault>
         requires { self.old.waits ≡ None }
-        ensures ok { OnOk result (Takes at opens (record self.old { waits = Some waiting }) self.new) }
+        ensures ok { OnOk result (TakesWord at opens (record self.old { waits = Some waiting }) self.new) }
         ensures err { IfErr result (λ e. e ≢ GmlFault.NoMemory → step_at (state_of (record self.old { waits = Some waiting })) at opens ≡ Err e) }
     {
         if self.stack.len() >= MOST_DEPTH {
@@ -141,7 +141,7 @@ impl Builder {
     #[inline(always)]
     pub(crate) fn put(&mut self, waiting: Waiting, at: u32, value: Value) -> Result<(), GmlFault>
         requires { self.old.waits ≡ None }
-        ensures ok { (w : Word) → IsAtom w value → OnOk result (Takes at w (record self.old { waits = Some waiting }) self.new) }
+        ensures ok { (w : Word) → IsAtom w value → OnOk result (TakesWord at w (record self.old { waits = Some waiting }) self.new) }
         ensures err { IfErr result (λ e. e ≡ GmlFault.NoMemory) }
     {
         let Waiting { key, at: place } = waiting;
@@ -161,7 +161,7 @@ impl Builder {
         text: &[u8],
     ) -> Result<(), GmlFault>
         requires { self.old.waits ≡ None }
-        ensures ok { OnOk result (Takes at (said_by kind at text.now) (record self.old { waits = Some waiting }) self.new) }
+        ensures ok { OnOk result (TakesWord at (said_by kind at text.now) (record self.old { waits = Some waiting }) self.new) }
         ensures err { IfErr result (λ e. e ≢ GmlFault.NoMemory → step_at (state_of (record self.old { waits = Some waiting })) at (said_by kind at text.now) ≡ Err e) }
     {
         match kind {
@@ -190,7 +190,7 @@ impl Builder {
         at: u32,
         text: &[u8],
     ) -> Result<(), GmlFault>
-        ensures ok { OnOk result (Takes at (said_by kind at text.now) self.old self.new) }
+        ensures ok { OnOk result (TakesWord at (said_by kind at text.now) self.old self.new) }
         ensures err { IfErr result (λ e. e ≢ GmlFault.NoMemory → step_at (state_of self.old) at (said_by kind at text.now) ≡ Err e) }
     {
         match self.waits.take() {

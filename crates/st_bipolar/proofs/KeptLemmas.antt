@@ -6,7 +6,7 @@ use Rattle.st_ids.specs.Ends.{edge_of}
 use Rattle.st_ids.specs.Graph.{Graph, tail_of}
 use Rattle.st_map.specs.Embedded.{Embedded, IsRotation, Touches, bare, darts, edges, faces, order}
 use Rattle.st_map.specs.Orders.{HasNoLoop, embed, end_at, ends_at, order_at}
-use Rattle.st_map.proofs.EndLemmas.{edge_of-tail, edge_of-head}
+use Rattle.st_map.proofs.Public.{edge_of-tail, edge_of-head}
 use Rattle.st_test.specs.Planar.{IsPlanarSt}
 use Rattle.st_bipolar.specs.Kept.{KeepsLists, OrientationKeepsLists}
 use Rattle.st_bipolar.specs.Orientation.{IsOrientation, IsTurned, turned_end}

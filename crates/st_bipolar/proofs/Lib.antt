@@ -1,17 +1,18 @@
-pub mod AboveLemmas
-pub mod OrderedLemmas
-pub mod PlacedLemmas
-pub mod CutLemmas
-pub mod VisitedLemmas
-pub mod SearchLemmas
-pub mod TableLemmas
-pub mod GoingLemmas
-pub mod PlaceLemmas
-pub mod LinkLemmas
-pub mod FaultLemmas
-pub mod NamingLemmas
-pub mod RootLemmas
-pub mod TurnLemmas
-pub mod OrientLemmas
-pub mod RebuildLemmas
-pub mod KeptLemmas
+mod AboveLemmas
+mod OrderedLemmas
+mod PlacedLemmas
+mod CutLemmas
+mod VisitedLemmas
+mod SearchLemmas
+mod TableLemmas
+mod GoingLemmas
+mod PlaceLemmas
+mod LinkLemmas
+mod FaultLemmas
+mod NamingLemmas
+mod RootLemmas
+mod TurnLemmas
+mod OrientLemmas
+mod RebuildLemmas
+mod KeptLemmas
+pub mod Public

@@ -8,8 +8,8 @@ use Rattle.st_bipolar.specs.Faults.{AreBranches, IsFirstApart, IsFirstJoint, IsJ
 use Rattle.st_ids.specs.Undirected.{IsConnected, IsJoined}
 use Rattle.st_bipolar.specs.Cuts.{CutsOff, HasAll, IsFirstCut, IsStNumbering, IsVisited, Meets}
 use Rattle.st_map.specs.Orders.{HasNoLoop}
-use Rattle.st_bipolar.specs.Ordering.{IsRanked, IsTree}
-use Rattle.st_bipolar.specs.Numbering.{AreNumbers}
+use Rattle.st_bipolar.specs.Ordering.{AreListRanks, IsSearchTree}
+use Rattle.st_bipolar.specs.Numbering.{AreRankNumbers}
 use Rattle.st_bipolar.proofs.AboveLemmas.{above_from, low_of_parent, root}
 use Rattle.st_bipolar.proofs.VisitedLemmas.{visited_law, cuts, whole, is_joined, is_apart, vertex_apart}
 
@@ -120,9 +120,9 @@ pub none_at : (T : Type 0) (r : Option T) (P : Type 0) → r ≡ None → IfNone
 none_at T r P e h = subst (λ z. IfNone z P) e h
 
 -- ---- the tree and the ranks
-pub tree_at : (g : Graph) (s t : ℕ) (vs parent low ps' low' : List ℕ) → IsVisited g s t vs parent low → HasNoJoint (length vs) (slice_index parent) (slice_index low) → ps' ≡ parent → low' ≡ low → IsTree (length ps') ps' low'
+pub tree_at : (g : Graph) (s t : ℕ) (vs parent low ps' low' : List ℕ) → IsVisited g s t vs parent low → HasNoJoint (length vs) (slice_index parent) (slice_index low) → ps' ≡ parent → low' ≡ low → IsSearchTree (length ps') ps' low'
 tree_at g s t vs parent low ps' low' V N e f =
-    subst (λ (z : List ℕ). IsTree (length z) z low') (sym e) (subst (λ (z : List ℕ). IsTree (length parent) parent z) (sym f) (subst (λ z. IsTree z parent low) (sym V.parents_size) (record {
+    subst (λ (z : List ℕ). IsSearchTree (length z) z low') (sym e) (subst (λ (z : List ℕ). IsSearchTree (length parent) parent z) (sym f) (subst (λ z. IsSearchTree z parent low) (sym V.parents_size) (record {
       two = V.search.two;
       parents_size = V.parents_size;
       lows_size = V.lows_size;
@@ -131,15 +131,15 @@ tree_at g s t vs parent low ps' low' V N e f =
       no_joint = N;
     })))
 
-pub ranked_at : (n : ℕ) (ps ps' low low' rank : List ℕ) → ps' ≡ ps → low' ≡ low → length ps ≡ n → IsRanked (length ps') (slice_index ps') (slice_index low') rank → IsRanked n (slice_index ps) (slice_index low) rank
-ranked_at n ps ps' low low' rank e f h R = subst (λ z. IsRanked z (slice_index ps) (slice_index low) rank) h
-    (subst (λ (z : List ℕ). IsRanked (length z) (slice_index z) (slice_index low) rank) e (subst (λ (z : List ℕ). IsRanked (length ps') (slice_index ps') (slice_index z) rank) f R))
+pub ranked_at : (n : ℕ) (ps ps' low low' rank : List ℕ) → ps' ≡ ps → low' ≡ low → length ps ≡ n → AreListRanks (length ps') (slice_index ps') (slice_index low') rank → AreListRanks n (slice_index ps) (slice_index low) rank
+ranked_at n ps ps' low low' rank e f h R = subst (λ z. AreListRanks z (slice_index ps) (slice_index low) rank) h
+    (subst (λ (z : List ℕ). AreListRanks (length z) (slice_index z) (slice_index low) rank) e (subst (λ (z : List ℕ). AreListRanks (length ps') (slice_index ps') (slice_index z) rank) f R))
 
-pub numbers_at : (n n' : ℕ) (vs vs' ranks ranks' : List ℕ) (numbers : List ℕ) → n' ≡ n → vs' ≡ vs → ranks' ≡ ranks → AreNumbers n' vs' ranks' (length vs') numbers → AreNumbers n vs ranks (length vs) numbers
-numbers_at n n' vs vs' ranks ranks' numbers e f h A = subst (λ z. AreNumbers z vs ranks (length vs) numbers) e
-    (subst (λ (z : List ℕ). AreNumbers n' z ranks (length z) numbers) f (subst (λ (z : List ℕ). AreNumbers n' vs' z (length vs') numbers) h A))
+pub numbers_at : (n n' : ℕ) (vs vs' ranks ranks' : List ℕ) (numbers : List ℕ) → n' ≡ n → vs' ≡ vs → ranks' ≡ ranks → AreRankNumbers n' vs' ranks' (length vs') numbers → AreRankNumbers n vs ranks (length vs) numbers
+numbers_at n n' vs vs' ranks ranks' numbers e f h A = subst (λ z. AreRankNumbers z vs ranks (length vs) numbers) e
+    (subst (λ (z : List ℕ). AreRankNumbers n' z ranks (length z) numbers) f (subst (λ (z : List ℕ). AreRankNumbers n' vs' z (length vs') numbers) h A))
 
 pub numbered_by : (g : Graph) (s t : ℕ) (vs parent low ranks numbers : List ℕ) → IsVisited g s t vs parent low → HasAll g vs → HasNoJoint (length vs) (slice_index parent) (slice_index low) → HasEnds g → HasNoLoop g
-    → IsConnected g s → IsRanked (length vs) (slice_index parent) (slice_index low) ranks → AreNumbers g.vertices vs ranks (length vs) numbers → IsStNumbering g s t (slice_index numbers)
+    → IsConnected g s → AreListRanks (length vs) (slice_index parent) (slice_index low) ranks → AreRankNumbers g.vertices vs ranks (length vs) numbers → IsStNumbering g s t (slice_index numbers)
 numbered_by g s t vs parent low ranks numbers V all N E D connected R A =
     (visited_law g s t vs parent low V).numbers all N E D connected R.side R.list ranks (slice_index numbers) R.balanced R.placed R.ranks A.each

@@ -3,12 +3,9 @@ use Rattle.std.proofs.Common.{◌≡◌, ◌≢◌, ℕ, ◌+◌, ◌<◌, ◌�
 use Rattle.std.proofs.lemmas.Bool.{eqb-true, eqb-false, cases_eq, cases_Bool, ltb-true, ltb-false}
 use Rattle.st_ids.specs.Graph.{Graph, arcs_of}
 use Rattle.st_ids.specs.Walks.{Walk, stay, step, Reaches, IsAcyclic}
-use Rattle.st_ids.proofs.WalkLemmas.{reach_refl, reach_trans, reach_arc, no_loop}
-use Rattle.st_ids.proofs.FiniteLemmas.{IsWithin, down, up}
-use Rattle.st_ids.proofs.ListLemmas.{turn}
+use Rattle.st_ids.proofs.Public.{reach_refl, reach_trans, reach_arc, no_loop, IsWithin, down, up, turn}
 use Rattle.st_map.specs.Embedded.{Embedded, HasOrders, Touches, bare, darts, edges, face, faces, head, order, tail}
-use Rattle.st_map.proofs.SumLemmas.{count-le}
-use Rattle.st_map.proofs.OrbitLemmas.{some_or_none}
+use Rattle.st_map.proofs.Public.{count-le, some_or_none, edge_of-below}
 use Rattle.st_test.specs.Planar.{IsPlanarSt}
 use Rattle.st_ids.specs.Undirected.{Joins, UndirectedWalk, rest, pass, IsJoined, IsConnected}
 use Rattle.st_bipolar.specs.Cuts.{CutsOff, IsStNumbering}
@@ -16,7 +13,6 @@ use Rattle.st_bipolar.specs.Orientation.{IsOrientation, IsPlane, IsTurned, Orien
 use Rattle.std.specs.Prelude.{slice_index, cond}
 use Rattle.st_ids.specs.Ends.{edge_of, twin}
 use Rattle.st_map.specs.Orders.{IsEdgeAt}
-use Rattle.st_map.proofs.EndLemmas.{edge_of-below}
 use Rattle.st_bipolar.specs.declared.orienting.OrientFault.{OrientFault}
 use Rattle.st_bipolar.specs.declared.orienting.OrientFault.TheVariants.{Apart, BadFaces, Outer, Cut, NoMemory}
 use Rattle.st_bipolar.specs.OrientFault.{IsOrientFault}

@@ -8,10 +8,7 @@ use Rattle.st_map.specs.Orbits.{iterate, Permutes}
 use Rattle.st_ids.specs.Ends.{edge_of, twin}
 use Rattle.st_ids.specs.Graph.{HasEnds, tail_of, head_of}
 use Rattle.st_map.specs.Embedded.{Embedded, HasOrders, Touches, after, at, bare, darts, edges, face, faces, head, next, order, phi, tail}
-use Rattle.st_map.proofs.OrbitLemmas.{iterate-stays, orbit-trans}
-use Rattle.st_map.proofs.EndLemmas.{even_or_odd, at-tail, at-head, edge_of-tail, edge_of-head, edge_of-twin, twin-twin, twin-tail, twin-head, twin-below}
-use Rattle.st_map.proofs.RotationLemmas.{phi-permutes}
-use Rattle.st_map.proofs.EndLemmas.{at_below}
+use Rattle.st_map.proofs.Public.{iterate-stays, orbit-trans, even_or_odd, at-tail, at-head, edge_of-tail, edge_of-head, edge_of-twin, twin-twin, twin-tail, twin-head, twin-below, phi-permutes, at_below}
 use Rattle.st_bipolar.specs.Orientation.{turned_end, turned, IsTurned}
 use Rattle.st_ids.specs.Undirected.{Joins}
 use Rattle.st_bipolar.proofs.RootLemmas.{roots, fewer}

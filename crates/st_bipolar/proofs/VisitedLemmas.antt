@@ -5,7 +5,7 @@ use Rattle.std.proofs.lemmas.Bool.{cases_eq, cases_order}
 use Rattle.st_ids.specs.Lists.{In, here, there, Precedes}
 use Rattle.st_ids.specs.Graph.{Graph, HasEnds, tail_of, head_of}
 use Rattle.st_map.specs.Orders.{HasNoLoop}
-use Rattle.st_bipolar.specs.Search.{Above, HasNoJoint, IsApart}
+use Rattle.st_bipolar.specs.Search.{Above, HasNoJoint, IsBelowJoint}
 use Rattle.st_bipolar.specs.Places.{IsOrdered}
 use Rattle.st_ids.specs.Undirected.{Joins, UndirectedWalk, rest, pass, IsJoined, IsConnected}
 use Rattle.st_bipolar.specs.Cuts.{CutsOff, IsStNumbering, Meets, IsVisited, HasAll}
@@ -93,7 +93,7 @@ module _ (g : Graph) (s t : ℕ) (vs parent low : List ℕ) (V : IsVisited g s t
   two : 2 ≤ length vs
   two = V.search.two
 
-  pub cuts : (c v : ℕ) → v < length vs → IsApart (length vs) (slice_index parent) (slice_index low) c v → CutsOff g s t (get_or vs c 0) (get_or vs v 0)
+  pub cuts : (c v : ℕ) → v < length vs → IsBelowJoint (length vs) (slice_index parent) (slice_index low) c v → CutsOff g s t (get_or vs c 0) (get_or vs v 0)
   cuts c v l A =
       let lb : A.branch < length vs = A.within in
       let tb : 2 ≤ A.branch = A.late in
@@ -113,7 +113,7 @@ module _ (g : Graph) (s t : ℕ) (vs parent low : List ℕ) (V : IsVisited g s t
             (path_of c 1 v (get_or vs v 0) t J.way lc l refl (omega arith) (sym V.sink) J.trail);
       }
 
-  pub whole : (c v : ℕ) → c < length vs → v < length vs → CutsOff g s t (get_or vs c 0) (get_or vs v 0) → (IsApart (length vs) (slice_index parent) (slice_index low) c v → ⊥) → ⊥
+  pub whole : (c v : ℕ) → c < length vs → v < length vs → CutsOff g s t (get_or vs c 0) (get_or vs v 0) → (IsBelowJoint (length vs) (slice_index parent) (slice_index low) c v → ⊥) → ⊥
   whole c v lc l C off =
       elim (out (length vs) (Meets g vs) (slice_index parent) (slice_index low) V.search V.lows c v l (λ e. C.not_cut (ap (λ x. get_or vs x 0) e)) off) [
         | inl w ↦ C.no_s (subst (λ z. IsJoined g (λ x. x ≢ get_or vs c 0) (get_or vs v 0) z) V.source (trail_of c 0 v lc l w))

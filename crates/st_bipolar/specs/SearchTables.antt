@@ -21,11 +21,11 @@ nbr_of g v i = at g (twin (slice_index (order g v) i))
 abbrev pub unvisited : ℕ
 unvisited = 2 ^ 32 - 1
 
-pub record AreDegrees (g : Embedded) (m : ℕ) (left : List ℕ) : Type 0 where
+pub record AreSearchDegrees (g : Embedded) (m : ℕ) (left : List ℕ) : Type 0 where
   pub size : length left ≡ m
   pub each : (v : ℕ) → v < m → slice_index left v ≡ deg_of g v
 
-pub record AreFirsts (g : Embedded) (m : ℕ) (next : List ℕ) : Type 0 where
+pub record AreSearchFirsts (g : Embedded) (m : ℕ) (next : List ℕ) : Type 0 where
   pub size : length next ≡ m
   pub each : (v : ℕ) → v < m → 0 < deg_of g v → slice_index next v ≡ slice_index (order g v) 0
 

@@ -2,7 +2,7 @@
 ghost use Rattle.std.specs.Prelude.{◌≡◌, ◌≢◌, ◌<◌, ◌^◌, ℕ, length, slice_index, IfOk};
 ghost use Rattle.st_map.specs.Embedded.{bare};
 ghost use Rattle.st_map.specs.Orders.{HasNoLoop};
-ghost use Rattle.st_bipolar.specs.Numbering.{AreNumbers};
+ghost use Rattle.st_bipolar.specs.Numbering.{AreRankNumbers};
 ghost use Rattle.st_ids.specs.Undirected.{IsConnected};
 ghost use Rattle.st_bipolar.specs.Cuts.{HasAll, IsStNumbering};
 ghost use Rattle.st_bipolar.specs.Visits.{HasNoJointBy, IsVisitBy, first_pole, second_pole};
@@ -25,7 +25,7 @@ fn by_vertex(
     requires within { (k : ℕ) → k < length vertices.now → slice_index vertices.now k < n }
     requires apart { (i k : ℕ) → i < k → k < length vertices.now
         → slice_index vertices.now i ≢ slice_index vertices.now k }
-    ensures { IfOk result (λ r. AreNumbers n vertices.now ranks.now (length vertices.now) r) }
+    ensures { IfOk result (λ r. AreRankNumbers n vertices.now ranks.now (length vertices.now) r) }
 {
     let mut numbers = IdVec::with_len(alloc, n, 0)?;
     for k in 0..vertices.len() {

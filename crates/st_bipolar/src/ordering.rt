@@ -2,7 +2,7 @@
 //!
 //! After R. E. Tarjan, Two Streamlined Depth-First Search Algorithms (1986).
 ghost use Rattle.std.specs.Prelude.{◌≡◌, ◌≢◌, ◌+◌, ◌<◌, ◌≤◌, ◌^◌, length, slice_index, slice_set, IfOk, MatchBool, List, Bool};
-ghost use Rattle.st_bipolar.specs.Ordering.{IsLinking, IsRanked, IsTree};
+ghost use Rattle.st_bipolar.specs.Ordering.{IsLinking, AreListRanks, IsSearchTree};
 
 use std::alloc::{AllocError, Global};
 
@@ -45,7 +45,7 @@ fn put(links: &mut Links, a: u32, b: u32, k: u32)
 
 /// The list of all vertices.
 fn link(alloc: Global, parents: &[u32], lows: &[u32]) -> Result<Links, AllocError>
-    requires tree { IsTree (length parents.now) parents.now lows.now }
+    requires tree { IsSearchTree (length parents.now) parents.now lows.now }
     requires few { length parents.now < 2 ^ 32 }
     ensures { IfOk result (λ l. (sign : List Bool) × IsLinking (length parents.now) (length parents.now)
         (slice_index parents.now) (slice_index lows.now) sign l.next.items l.prev.items) }
@@ -71,10 +71,10 @@ fn link(alloc: Global, parents: &[u32], lows: &[u32]) -> Result<Links, AllocErro
 ///
 /// Cost: O(n) time, four tables. Not proved.
 pub fn rank(alloc: Global, parents: &[u32], lows: &[u32]) -> Result<Vec<u32>, AllocError>
-    requires tree { IsTree (length parents.now) parents.now lows.now }
+    requires tree { IsSearchTree (length parents.now) parents.now lows.now }
     requires few { length parents.now < 2 ^ 32 }
     ensures { IfOk result (λ r.
-        IsRanked (length parents.now) (slice_index parents.now) (slice_index lows.now) r.items) }
+        AreListRanks (length parents.now) (slice_index parents.now) (slice_index lows.now) r.items) }
 {
     let links = link(alloc, parents, lows)?;
     let mut ranks = vec![in alloc; 0u32; parents.len()]?;

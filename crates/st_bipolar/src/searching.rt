@@ -5,7 +5,7 @@
 //! After R. E. Tarjan, Depth-First Search and Linear Graph Algorithms (1972).
 ghost use Rattle.std.specs.Prelude.{◌≡◌, ◌≢◌, ◌⊎◌, ◌+◌, ◌-◌, ◌<◌, ◌≤◌, ◌^◌, length, min, slice_index, slice_set, IfOk, OnOk, MatchBool, [], ◌∷◌, ◌++◌};
 ghost use Rattle.st_map.specs.Embedded.{IsRotation, bare};
-ghost use Rattle.st_bipolar.specs.SearchTables.{AreCursors, AreDegrees, AreFirsts, IsGoingBy, SamePoles, deg_of, nbr_of, unvisited, work};
+ghost use Rattle.st_bipolar.specs.SearchTables.{AreCursors, AreSearchDegrees, AreSearchFirsts, IsGoingBy, SamePoles, deg_of, nbr_of, unvisited, work};
 ghost use Rattle.st_bipolar.specs.Cuts.{IsVisited};
 
 use st_ids::{Dart, NoMemory, VertexId};
@@ -15,7 +15,7 @@ use std::alloc::{AllocError, Global};
 
 /// How many ends each vertex has.
 fn degrees(alloc: Global, map: &Map) -> Result<Vec<u32>, AllocError>
-    ensures { IfOk result (λ v. AreDegrees map.now.graph map.now.graph.vertices v.items) }
+    ensures { IfOk result (λ v. AreSearchDegrees map.now.graph map.now.graph.vertices v.items) }
 {
     let mut left = Vec::new(alloc);
     for v in 0..map.vertices() {
@@ -26,7 +26,7 @@ fn degrees(alloc: Global, map: &Map) -> Result<Vec<u32>, AllocError>
 
 /// The first end of each vertex, and 0 for none.
 fn first_ends(alloc: Global, map: &Map) -> Result<Vec<u32>, AllocError>
-    ensures { IfOk result (λ v. AreFirsts map.now.graph map.now.graph.vertices v.items) }
+    ensures { IfOk result (λ v. AreSearchFirsts map.now.graph map.now.graph.vertices v.items) }
 {
     let mut next = Vec::new(alloc);
     for v in 0..map.vertices() {

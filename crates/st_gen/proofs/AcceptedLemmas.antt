@@ -9,21 +9,16 @@ use Rattle.st_ids.specs.Ends.{is_out, twin, edge_of}
 use Rattle.st_ids.specs.Graph.{Graph, HasEnds, tail_of, head_of, arcs_of}
 use Rattle.st_ids.specs.Lists.{In}
 use Rattle.st_ids.specs.Walks.{Walk, stay, step, IsAcyclic}
-use Rattle.st_ids.proofs.ListLemmas.{not_in_nil}
+use Rattle.st_ids.proofs.Public.{not_in_nil}
 use Rattle.st_map.specs.Counting.{bit, count_below, fibre}
 use Rattle.st_map.specs.Embedded.{Embedded, HasOrders, at, order, darts, next, phi, face, faces}
 use Rattle.st_map.specs.Orbits.{iterate, Permutes, SameOrbit, least_within}
 use Rattle.st_map.specs.Orders.{IsOrderAt, HasNoLoop, order_at, embed, end_at, ends_at}
 use Rattle.st_map.specs.Tables.{AreEdges, IsLawful}
-use Rattle.st_map.proofs.EndLemmas.{is_out-tail, is_out-head, edge_of-tail, edge_of-head, twin-tail, twin-head, twin-twin, twin-below, at-tail, at-head, at_below}
-use Rattle.st_map.proofs.OrbitLemmas.{iterate-stays, orbit-refl, least-at, root-below, root-root, same-from_root}
-use Rattle.st_map.proofs.OrderLemmas.{at_place, lawful_of}
-use Rattle.st_map.proofs.RotationLemmas.{next-at, next-last, phi-permutes}
-use Rattle.st_map.proofs.SumLemmas.{cover, cover-exact, total-one, same_counted}
-use Rattle.st_map.proofs.TableLemmas.{has_orders}
+use Rattle.st_map.proofs.Public.{is_out-tail, is_out-head, edge_of-tail, edge_of-head, twin-tail, twin-head, twin-twin, twin-below, at-tail, at-head, at_below, iterate-stays, orbit-refl, least-at, root-below, root-root, same-from_root, at_place, lawful_of, next-at, next-last, phi-permutes, cover, cover-exact, total-one, same_counted, has_orders}
 use Rattle.st_test.specs.Planar.{IsPlanarSt, outer_of}
 use Rattle.st_test.specs.Poles.{ArePoles, graph_of}
-use Rattle.st_test.specs.PolesAnswer.{OnePolesAnswer, IsFirstFault}
+use Rattle.st_test.specs.PolesAnswer.{OnePolesAnswer, IsFirstDigraphFault}
 use Rattle.st_test.specs.Verdict.{IsEmbedFault}
 use Rattle.st_test.specs.declared.digraph_fault.Poles.{Poles}
 use Rattle.st_test.specs.declared.digraph_fault.DigraphFault.{DigraphFault}
@@ -34,8 +29,8 @@ use Rattle.st_map.specs.Fault.{IsMapFault}
 use Rattle.st_map.specs.declared.orders.MapFault.{MapFault}
 use Rattle.st_map.specs.declared.orders.MapFault.TheVariants as map_fault
 use Rattle.st_sides.specs.Laws.{IsOrderedSt}
-use Rattle.st_sides.proofs.BoundLemmas.{euler_bound_law}
-use Rattle.st_input.specs.Orders.{outs, ins, AreAt, default_order}
+use Rattle.st_sides.proofs.Public.{euler_bound_law}
+use Rattle.st_input.specs.Orders.{file_outs, file_ins, AreAt, default_order}
 use Rattle.st_gen.specs.Accepted.{PassesTests, AcceptedLaw}
 use Rattle.st_gen.proofs.DefaultOrders.{outs_only, ins_only, outs_all, ins_all, default_is_order}
 use Rattle.st_gen.proofs.FanLemmas.{Fan, Fan-append, Fan-map, Fan-at_first, Fan-at_next, Fan-at_last}
@@ -151,27 +146,27 @@ module _ (n : ℕ) (es : List (ℕ × ℕ)) (orders : List (List ℕ)) (two : 2 
     | false ↦ omega (arith, G.beside.few_right (edge_of d))
   ]
 
-  out_end : (v e : ℕ) → In e (outs v 0 es) → (number (end_at es v e) ≡ G.beside.left e) × (number (twin (end_at es v e)) ≡ G.beside.right e)
+  out_end : (v e : ℕ) → In e (file_outs v 0 es) → (number (end_at es v e) ≡ G.beside.left e) × (number (twin (end_at es v e)) ≡ G.beside.right e)
   out_end v e i =
       let q : end_at es v e ≡ 2 * e = cond-true (eqb (tail_of es e) v) (2 * e) (2 * e + 1) (eq-eqb (tail_of es e) v (outs_only es v e i).1) in
       (ap number q ∙ number-tail e, ap (λ z. number (twin z)) q ∙ ap number (twin-tail e) ∙ number-head e)
 
-  in_end : (v e : ℕ) → In e (ins v 0 es) → (number (end_at es v e) ≡ G.beside.right e) × (number (twin (end_at es v e)) ≡ G.beside.left e)
+  in_end : (v e : ℕ) → In e (file_ins v 0 es) → (number (end_at es v e) ≡ G.beside.right e) × (number (twin (end_at es v e)) ≡ G.beside.left e)
   in_end v e i =
       let h : (e < length es) × (head_of es e ≡ v) = ins_only es v e i in
       let q : end_at es v e ≡ 2 * e + 1 = cond-false (eqb (tail_of es e) v) (2 * e) (2 * e + 1) (ne_eqb (tail_of es e) v (λ t. loopless e h.0 (t ∙ sym h.1))) in
       (ap number q ∙ number-head e, ap (λ z. number (twin z)) q ∙ ap number (twin-head e) ∙ number-tail e)
 
-  order_is : (v : ℕ) → v < n → order g v ≡ map (end_at es v) (outs v 0 es) ++ map (end_at es v) (ins v 0 es)
+  order_is : (v : ℕ) → v < n → order g v ≡ map (end_at es v) (file_outs v 0 es) ++ map (end_at es v) (file_ins v 0 es)
   order_is v l = get_or-map-range_with_len (ends_at es orders) 0 n v v [] l (omega arith)
-      ∙ ap (map (end_at es v)) (given v l) ∙ map-append (end_at es v) (outs v 0 es) (ins v 0 es)
+      ∙ ap (map (end_at es v)) (given v l) ∙ map-append (end_at es v) (file_outs v 0 es) (file_ins v 0 es)
 
   -- round a vertex, what is beside an end is beside the twin of the end before it
   round : (v : ℕ) → v < n → Fan number (λ d. number (twin d)) (order g v) (G.beside.left_at v) (G.beside.left_at v)
   round v l = subst (λ z. Fan number (λ d. number (twin d)) z (G.beside.left_at v) (G.beside.left_at v)) (sym (order_is v l))
-      (Fan-append number (λ d. number (twin d)) (map (end_at es v) (outs v 0 es)) (map (end_at es v) (ins v 0 es)) (G.beside.left_at v) (G.beside.right_at v) (G.beside.left_at v)
-      (Fan-map G.beside.left G.beside.right number (λ d. number (twin d)) (end_at es v) (outs v 0 es) (G.beside.left_at v) (G.beside.right_at v) (out_end v) (G.beside.outs_fan v l))
-      (Fan-map G.beside.right G.beside.left number (λ d. number (twin d)) (end_at es v) (ins v 0 es) (G.beside.right_at v) (G.beside.left_at v) (in_end v) (G.beside.ins_fan v l)))
+      (Fan-append number (λ d. number (twin d)) (map (end_at es v) (file_outs v 0 es)) (map (end_at es v) (file_ins v 0 es)) (G.beside.left_at v) (G.beside.right_at v) (G.beside.left_at v)
+      (Fan-map G.beside.left G.beside.right number (λ d. number (twin d)) (end_at es v) (file_outs v 0 es) (G.beside.left_at v) (G.beside.right_at v) (out_end v) (G.beside.outs_fan v l))
+      (Fan-map G.beside.right G.beside.left number (λ d. number (twin d)) (end_at es v) (file_ins v 0 es) (G.beside.right_at v) (G.beside.left_at v) (in_end v) (G.beside.ins_fan v l)))
 
   number_next : (d : ℕ) → d < darts g → number (next g d) ≡ number (twin d)
   number_next d l =
@@ -314,7 +309,7 @@ module _ (one_answer : OnePolesAnswer) (g : Graph) (orders : List (List ℕ)) (s
   only_poles : (a b : ℕ) → ArePoles g a b → (a ≡ s) × (b ≡ t)
   only_poles a b A = (poles.source.only a A.source.there A.source.none_in, poles.sink.only b A.sink.there A.sink.none_out)
 
-  no_digraph_fault : (f : DigraphFault) → f ≢ digraph.NoMemory → IsFirstFault g f → ⊥
+  no_digraph_fault : (f : DigraphFault) → f ≢ digraph.NoMemory → IsFirstDigraphFault g f → ⊥
   no_digraph_fault f n h =
       let p : Poles = record { source = record { 0 = s }; sink = record { 0 = t } } in
       let q : Ok p ≡ Err f = one_answer g (Ok p) (Err f) poles h (λ e. cc) (λ e. n cc) in

@@ -12,13 +12,12 @@ use Rattle.std.proofs.lemmas.List.{append-nil, get_or_append_left, get_or-append
 use Rattle.std.proofs.lemmas.Nat.{mul-le}
 use Rattle.st_ids.specs.Graph.{tail_of, head_of}
 use Rattle.st_ids.specs.Lists.{In, here, there, NoRepeat, Linked}
-use Rattle.st_ids.proofs.ListLemmas.{not_in_nil, In-cases, in_left, in_right, in_append, in_subst, in_dec}
-use Rattle.st_ids.proofs.FiniteLemmas.{in_map}
-use Rattle.st_input.specs.Orders.{outs, ins}
+use Rattle.st_ids.proofs.Public.{not_in_nil, In-cases, in_left, in_right, in_append, in_subst, in_dec, in_map}
+use Rattle.st_input.specs.Orders.{file_outs, file_ins}
 use Rattle.st_gen.specs.Made.{range, ear_edges}
 use Rattle.st_gen.proofs.Ears.{length-ear_edges}
 use Rattle.st_gen.proofs.EarLists.{last_of, last_of-append, in_mapped, once_right, once_apart, once_swap, linked_cut, linked_join, linked_to, linked_from, next_of, prev_of}
-use Rattle.st_gen.proofs.DefaultOrders.{outs_once, ins_once, outs_only, ins_only, outs_all, ins_all, outs-append, ins-append, range_only, range_all, range_once, ear_outs_none, ear_ins_none, EarEdge, ear_linked, linked_ranks, ear_rises}
+use Rattle.st_gen.proofs.DefaultOrders.{outs_once, ins_once, outs_only, ins_only, outs_all, ins_all, file_outs-append, file_ins-append, range_only, range_all, range_once, ear_outs_none, ear_ins_none, EarEdge, ear_linked, linked_ranks, ear_rises}
 use Rattle.st_gen.proofs.FanLemmas.{Fan, Fan-append, Fan-same, Fan-last}
 
 -- an edge that is the last one out of u and the last one into w
@@ -26,16 +25,16 @@ pub record RightEdge (es : List (ℕ × ℕ)) (u w : ℕ) : Type 0 where
   pub edge : ℕ
   pub before : List ℕ
   pub after : List ℕ
-  pub last_out : outs u 0 es ≡ before ++ edge ∷ []
-  pub first_in : ins w 0 es ≡ edge ∷ after
+  pub last_out : file_outs u 0 es ≡ before ++ edge ∷ []
+  pub first_in : file_ins w 0 es ≡ edge ∷ after
 
 -- the right boundary of a graph whose vertices are the numbers below c
 pub record IsRow (es : List (ℕ × ℕ)) (row : List ℕ) (c : ℕ) : Type 0 where
   pub once : NoRepeat row
   pub below : (v : ℕ) → In v row → v < c
   pub linked : Linked (RightEdge es) row
-  pub none_out : (v : ℕ) → c ≤ v → outs v 0 es ≡ []
-  pub none_in : (v : ℕ) → c ≤ v → ins v 0 es ≡ []
+  pub none_out : (v : ℕ) → c ≤ v → file_outs v 0 es ≡ []
+  pub none_in : (v : ℕ) → c ≤ v → file_ins v 0 es ≡ []
 
 -- What lies left and right of each edge and of each vertex. Round a vertex, the edges out lead from its left to its right, and
 -- the edges in, last one first, from its right to its left. The outer face lies right of the boundary, left of the source 0
@@ -45,8 +44,8 @@ pub record IsBeside (es : List (ℕ × ℕ)) (row : List ℕ) (c ears : ℕ) : T
   pub right : ℕ → ℕ
   pub left_at : ℕ → ℕ
   pub right_at : ℕ → ℕ
-  pub outs_fan : (v : ℕ) → v < c → Fan left right (outs v 0 es) (left_at v) (right_at v)
-  pub ins_fan : (v : ℕ) → v < c → Fan right left (ins v 0 es) (right_at v) (left_at v)
+  pub outs_fan : (v : ℕ) → v < c → Fan left right (file_outs v 0 es) (left_at v) (right_at v)
+  pub ins_fan : (v : ℕ) → v < c → Fan right left (file_ins v 0 es) (right_at v) (left_at v)
   pub row_right : (v : ℕ) → In v row → right_at v ≡ 0
   pub few_left : (e : ℕ) → left e ≤ ears
   pub few_right : (e : ℕ) → right e ≤ ears
@@ -59,10 +58,10 @@ pub record IsBeside (es : List (ℕ × ℕ)) (row : List ℕ) (c ears : ℕ) : T
 pub record IsRising (es : List (ℕ × ℕ)) (c : ℕ) : Type 0 where
   pub rank : ℕ → ℕ
   pub rises : (e : ℕ) → e < length es → rank (tail_of es e) < rank (head_of es e)
-  pub source : ins 0 0 es ≡ []
-  pub sink : outs 1 0 es ≡ []
-  pub some_in : (v : ℕ) → v < c → v ≢ 0 → (e : ℕ) × In e (ins v 0 es)
-  pub some_out : (v : ℕ) → v < c → v ≢ 1 → (e : ℕ) × In e (outs v 0 es)
+  pub source : file_ins 0 0 es ≡ []
+  pub sink : file_outs 1 0 es ≡ []
+  pub some_in : (v : ℕ) → v < c → v ≢ 0 → (e : ℕ) × In e (file_ins v 0 es)
+  pub some_out : (v : ℕ) → v < c → v ≢ 1 → (e : ℕ) × In e (file_outs v 0 es)
 
 -- ---- one of two numbers
 abbrev pub pick : {A B : Type 0} → A ⊎ B → ℕ → ℕ → ℕ
@@ -86,16 +85,16 @@ fan_to f g es' es x' x y' y p q r h =
     subst (λ z. Fan f g z x' y') (sym p) (subst (λ z. Fan f g es z y') (sym q) (subst (λ z. Fan f g es x z) (sym r) h))
 
 -- ---- an edge of the boundary
-edge_out : (es : List (ℕ × ℕ)) (u w : ℕ) (r : RightEdge es u w) → In r.edge (outs u 0 es)
+edge_out : (es : List (ℕ × ℕ)) (u w : ℕ) (r : RightEdge es u w) → In r.edge (file_outs u 0 es)
 edge_out es u w r = subst (In r.edge) (sym r.last_out) (in_right r.before (here refl))
 
-edge_in : (es : List (ℕ × ℕ)) (u w : ℕ) (r : RightEdge es u w) → In r.edge (ins w 0 es)
+edge_in : (es : List (ℕ × ℕ)) (u w : ℕ) (r : RightEdge es u w) → In r.edge (file_ins w 0 es)
 edge_in es u w r = subst (In r.edge) (sym r.first_in) (here refl)
 
-edge_last : (es : List (ℕ × ℕ)) (u w : ℕ) (r : RightEdge es u w) → last_of 0 (outs u 0 es) ≡ r.edge
+edge_last : (es : List (ℕ × ℕ)) (u w : ℕ) (r : RightEdge es u w) → last_of 0 (file_outs u 0 es) ≡ r.edge
 edge_last es u w r = ap (last_of 0) r.last_out ∙ last_of-append 0 r.before r.edge
 
-edge_first : (es : List (ℕ × ℕ)) (u w : ℕ) (r : RightEdge es u w) → get_or (ins w 0 es) 0 0 ≡ r.edge
+edge_first : (es : List (ℕ × ℕ)) (u w : ℕ) (r : RightEdge es u w) → get_or (file_ins w 0 es) 0 0 ≡ r.edge
 edge_first es u w r = ap (λ (z : List ℕ). get_or z 0 0) r.first_in
 
 along : (es : List (ℕ × ℕ)) (rank : ℕ → ℕ) → ((e : ℕ) → e < length es → rank (tail_of es e) < rank (head_of es e))
@@ -169,17 +168,17 @@ module _ (es : List (ℕ × ℕ)) (X : List ℕ) (u : ℕ) (M : List ℕ) (w : �
   chain = ear_linked u c k w (length es) u_old w_old w_u
 
   -- ---- the edges at a vertex
-  outs_kept : (v : ℕ) → v < c → v ≢ u → outs v 0 grown ≡ outs v 0 es
-  outs_kept v l n = outs-append v es ear ∙ ap (λ z. outs v 0 es ++ z) (ear_outs_none v u c k w (length es) n (λ a b. omega arith)) ∙ append-nil (outs v 0 es)
+  outs_kept : (v : ℕ) → v < c → v ≢ u → file_outs v 0 grown ≡ file_outs v 0 es
+  outs_kept v l n = file_outs-append v es ear ∙ ap (λ z. file_outs v 0 es ++ z) (ear_outs_none v u c k w (length es) n (λ a b. omega arith)) ∙ append-nil (file_outs v 0 es)
 
-  ins_kept : (v : ℕ) → v < c → v ≢ w → ins v 0 grown ≡ ins v 0 es
-  ins_kept v l n = ins-append v es ear ∙ ap (λ z. z ++ ins v 0 es) (ear_ins_none v u c k w (length es) n (λ a b. omega arith))
+  ins_kept : (v : ℕ) → v < c → v ≢ w → file_ins v 0 grown ≡ file_ins v 0 es
+  ins_kept v l n = file_ins-append v es ear ∙ ap (λ z. z ++ file_ins v 0 es) (ear_ins_none v u c k w (length es) n (λ a b. omega arith))
 
-  outs_more : (v x : ℕ) (E : EarEdge ear (length es) v x) → outs v 0 grown ≡ outs v 0 es ++ E.edge ∷ []
-  outs_more v x E = outs-append v es ear ∙ ap (λ z. outs v 0 es ++ z) E.out
+  outs_more : (v x : ℕ) (E : EarEdge ear (length es) v x) → file_outs v 0 grown ≡ file_outs v 0 es ++ E.edge ∷ []
+  outs_more v x E = file_outs-append v es ear ∙ ap (λ z. file_outs v 0 es ++ z) E.out
 
-  ins_more : (x v : ℕ) (E : EarEdge ear (length es) x v) → ins v 0 grown ≡ E.edge ∷ ins v 0 es
-  ins_more x v E = ins-append v es ear ∙ ap (λ z. z ++ ins v 0 es) E.into
+  ins_more : (x v : ℕ) (E : EarEdge ear (length es) x v) → file_ins v 0 grown ≡ E.edge ∷ file_ins v 0 es
+  ins_more x v E = file_ins-append v es ear ∙ ap (λ z. z ++ file_ins v 0 es) E.into
 
   long : length grown ≡ length es + (k + 1)
   long = length-append es ear ∙ ap (λ z. length es + z) (length-ear_edges u c k w)
@@ -213,8 +212,8 @@ module _ (es : List (ℕ × ℕ)) (X : List ℕ) (u : ℕ) (M : List ℕ) (w : �
   new_between : Linked (RightEdge grown) (u ∷ (range c k ++ w ∷ []))
   new_between = linked_from (EarEdge ear (length es)) (RightEdge grown) u (range c k ++ w ∷ []) (λ a b i j E. record {
     edge = E.edge;
-    before = outs a 0 es;
-    after = ins b 0 es;
+    before = file_outs a 0 es;
+    after = file_ins b 0 es;
     last_out = outs_more a b E;
     first_in = ins_more a b E;
   }) chain
@@ -250,11 +249,11 @@ module _ (es : List (ℕ × ℕ)) (X : List ℕ) (u : ℕ) (M : List ℕ) (w : �
         (λ v i j. let l : v < c = R.below v (subst (In v) (append_assoc X (u ∷ []) (M ++ w ∷ Y)) j) in omega (arith, (range_only c k v i).0)));
     below = new_below;
     linked = linked_join (RightEdge grown) X u (range c k ++ w ∷ Y) new_to_u (linked_join (RightEdge grown) (u ∷ range c k) w Y new_between new_from_w);
-    none_out = λ v l. outs-append v es ear
-        ∙ ap (λ z. z ++ outs v (length es) ear) (R.none_out v (omega arith))
+    none_out = λ v l. file_outs-append v es ear
+        ∙ ap (λ z. z ++ file_outs v (length es) ear) (R.none_out v (omega arith))
         ∙ ear_outs_none v u c k w (length es) (λ q. omega (arith, u_old)) (λ a b. omega arith);
-    none_in = λ v l. ins-append v es ear
-        ∙ ap (λ z. z ++ ins v 0 es) (ear_ins_none v u c k w (length es) (λ q. omega (arith, w_old)) (λ a b. omega arith))
+    none_in = λ v l. file_ins-append v es ear
+        ∙ ap (λ z. z ++ file_ins v 0 es) (ear_ins_none v u c k w (length es) (λ q. omega (arith, w_old)) (λ a b. omega arith))
         ∙ R.none_in v (omega arith);
   }
 
@@ -314,12 +313,12 @@ module _ (es : List (ℕ × ℕ)) (X : List ℕ) (u : ℕ) (M : List ℕ) (w : �
     source_kept : 0 ≡ w → ⊥
     source_kept q =
         let p = prev_of (RightEdge es) u M w w covered (in_right M (here refl)) in
-        not_in_nil (subst (In p.2.edge) (ap (λ z. ins z 0 es) (sym q) ∙ K.source) (edge_in es p.0 w p.2))
+        not_in_nil (subst (In p.2.edge) (ap (λ z. file_ins z 0 es) (sym q) ∙ K.source) (edge_in es p.0 w p.2))
 
     sink_kept : 1 ≡ u → ⊥
     sink_kept q =
         let n = next_of (RightEdge es) u M w u covered (here refl) in
-        not_in_nil (subst (In n.2.edge) (ap (λ z. outs z 0 es) (sym q) ∙ K.sink) (edge_out es u n.0 n.2))
+        not_in_nil (subst (In n.2.edge) (ap (λ z. file_outs z 0 es) (sym q) ∙ K.sink) (edge_out es u n.0 n.2))
 
     pub rising_grows : IsRising (es ++ ear_edges u c k w) (c + k)
     rising_grows = record {
@@ -328,40 +327,40 @@ module _ (es : List (ℕ × ℕ)) (X : List ℕ) (u : ℕ) (M : List ℕ) (w : �
       source = ins_kept 0 (omega (arith, w_old)) source_kept ∙ K.source;
       sink = outs_kept 1 (omega (arith, u_old, w_old, w_u)) sink_kept ∙ K.sink;
       some_in = λ v l n. elim (cases_lt v c) [
-        | inl o ↦ let h = K.some_in v o n in (h.0, subst (In h.0) (sym (ins-append v es ear)) (in_right (ins v (length es) ear) h.1))
+        | inl o ↦ let h = K.some_in v o n in (h.0, subst (In h.0) (sym (file_ins-append v es ear)) (in_right (file_ins v (length es) ear) h.1))
         | inr h ↦
             let p = prev_of (EarEdge ear (length es)) u (range c k) w v chain (in_left (w ∷ []) (range_all c k v h l)) in
             (p.2.edge, subst (In p.2.edge) (sym (ins_more p.0 v p.2)) (here refl))
       ];
       some_out = λ v l n. elim (cases_lt v c) [
-        | inl o ↦ let h = K.some_out v o n in (h.0, subst (In h.0) (sym (outs-append v es ear)) (in_left (outs v (length es) ear) h.1))
+        | inl o ↦ let h = K.some_out v o n in (h.0, subst (In h.0) (sym (file_outs-append v es ear)) (in_left (file_outs v (length es) ear) h.1))
         | inr h ↦
             let x = next_of (EarEdge ear (length es)) u (range c k) w v chain (there (range_all c k v h l)) in
-            (x.2.edge, subst (In x.2.edge) (sym (outs_more v x.0 x.2)) (in_right (outs v 0 es) (here refl)))
+            (x.2.edge, subst (In x.2.edge) (sym (outs_more v x.0 x.2)) (in_right (file_outs v 0 es) (here refl)))
       ];
     }
 
   -- ---- the edges that the ear covers
   abbrev under : List ℕ
-  under = map (λ v. last_of 0 (outs v 0 es)) (u ∷ M)
+  under = map (λ v. last_of 0 (file_outs v 0 es)) (u ∷ M)
 
   under_is : (e : ℕ) → In e under → IsUnder es u M w e
   under_is e i =
-      let p = in_map (λ v. last_of 0 (outs v 0 es)) e (u ∷ M) i in
+      let p = in_map (λ v. last_of 0 (file_outs v 0 es)) e (u ∷ M) i in
       let n = next_of (RightEdge es) u M w p.0 covered p.1 in
       record { from = p.0; to = n.0; from_in = p.1; to_in = n.1; is_right = n.2; is = p.2 ∙ edge_last es p.0 n.0 n.2 }
 
   is_under : (a b : ℕ) → In a (u ∷ M) → (r : RightEdge es a b) → In r.edge under
-  is_under a b i r = in_subst (edge_last es a b r) (in_mapped (λ v. last_of 0 (outs v 0 es)) a (u ∷ M) i)
+  is_under a b i r = in_subst (edge_last es a b r) (in_mapped (λ v. last_of 0 (file_outs v 0 es)) a (u ∷ M) i)
 
   -- an edge that is no last one at its vertex isn't covered, and none at a vertex that isn't
-  clear_out : (v e : ℕ) → (In v (u ∷ M) → ⊥) → In e (outs v 0 es) → In e under → ⊥
+  clear_out : (v e : ℕ) → (In v (u ∷ M) → ⊥) → In e (file_outs v 0 es) → In e under → ⊥
   clear_out v e n i j =
       let q = under_is e j in
       let a : tail_of es q.is_right.edge ≡ q.from = (outs_only es q.from q.is_right.edge (edge_out es q.from q.to q.is_right)).1 in
       n (in_subst (sym a ∙ ap (tail_of es) (sym q.is) ∙ (outs_only es v e i).1) q.from_in)
 
-  clear_in : (v e : ℕ) → (In v (M ++ w ∷ []) → ⊥) → In e (ins v 0 es) → In e under → ⊥
+  clear_in : (v e : ℕ) → (In v (M ++ w ∷ []) → ⊥) → In e (file_ins v 0 es) → In e under → ⊥
   clear_in v e n i j =
       let q = under_is e j in
       let a : head_of es q.is_right.edge ≡ q.to = (ins_only es q.to q.is_right.edge (edge_in es q.from q.to q.is_right)).1 in
@@ -373,7 +372,7 @@ module _ (es : List (ℕ × ℕ)) (X : List ℕ) (u : ℕ) (M : List ℕ) (w : �
       let f : tail_of es e ≡ a = (outs_only es a e (subst (In e) (sym r.last_out) (in_left (r.edge ∷ []) i))).1 in
       let t : tail_of es q.is_right.edge ≡ q.from = (outs_only es q.from q.is_right.edge (edge_out es q.from q.to q.is_right)).1 in
       let v : q.from ≡ a = sym t ∙ ap (tail_of es) (sym q.is) ∙ f in
-      let s : e ≡ r.edge = q.is ∙ sym (edge_last es q.from q.to q.is_right) ∙ ap (λ z. last_of 0 (outs z 0 es)) v ∙ edge_last es a b r in
+      let s : e ≡ r.edge = q.is ∙ sym (edge_last es q.from q.to q.is_right) ∙ ap (λ z. last_of 0 (file_outs z 0 es)) v ∙ edge_last es a b r in
       once_apart r.before (r.edge ∷ []) e (subst NoRepeat r.last_out (outs_once a es)) i (here s)
 
   clear_after : (a b : ℕ) (r : RightEdge es a b) (e : ℕ) → In e r.after → In e under → ⊥
@@ -382,7 +381,7 @@ module _ (es : List (ℕ × ℕ)) (X : List ℕ) (u : ℕ) (M : List ℕ) (w : �
       let f : head_of es e ≡ b = (ins_only es b e (subst (In e) (sym r.first_in) (there i))).1 in
       let t : head_of es q.is_right.edge ≡ q.to = (ins_only es q.to q.is_right.edge (edge_in es q.from q.to q.is_right)).1 in
       let v : q.to ≡ b = sym t ∙ ap (head_of es) (sym q.is) ∙ f in
-      let s : e ≡ r.edge = q.is ∙ sym (edge_first es q.from q.to q.is_right) ∙ ap (λ z. get_or (ins z 0 es) 0 0) v ∙ edge_first es a b r in
+      let s : e ≡ r.edge = q.is ∙ sym (edge_first es q.from q.to q.is_right) ∙ ap (λ z. get_or (file_ins z 0 es) 0 0) v ∙ edge_first es a b r in
       (subst NoRepeat r.first_in (ins_once b es)).0 (in_subst s i)
 
   -- ---- what lies beside, with the number of the new ear
@@ -444,15 +443,15 @@ module _ (es : List (ℕ × ℕ)) (X : List ℕ) (u : ℕ) (M : List ℕ) (w : �
     right_at_new v l = pick-second (cases_lt v c) (pick (in_dec v M) (suc ears) (B.right_at v)) 0 (λ h. omega arith)
 
     -- the edges out of a vertex, and into it, before the ear's are added
-    outs_clear : (v : ℕ) → v < c → (In v (u ∷ M) → ⊥) → Fan left' right' (outs v 0 es) (B.left_at v) (B.right_at v)
-    outs_clear v l n = Fan-same B.left B.right left' right' (outs v 0 es) (B.left_at v) (B.right_at v)
+    outs_clear : (v : ℕ) → v < c → (In v (u ∷ M) → ⊥) → Fan left' right' (file_outs v 0 es) (B.left_at v) (B.right_at v)
+    outs_clear v l n = Fan-same B.left B.right left' right' (file_outs v 0 es) (B.left_at v) (B.right_at v)
         (λ e i. (left_old e (outs_only es v e i).0, right_old e (outs_only es v e i).0 (clear_out v e n i))) (B.outs_fan v l)
 
-    ins_clear : (v : ℕ) → v < c → (In v (M ++ w ∷ []) → ⊥) → Fan right' left' (ins v 0 es) (B.right_at v) (B.left_at v)
-    ins_clear v l n = Fan-same B.right B.left right' left' (ins v 0 es) (B.right_at v) (B.left_at v)
+    ins_clear : (v : ℕ) → v < c → (In v (M ++ w ∷ []) → ⊥) → Fan right' left' (file_ins v 0 es) (B.right_at v) (B.left_at v)
+    ins_clear v l n = Fan-same B.right B.left right' left' (file_ins v 0 es) (B.right_at v) (B.left_at v)
         (λ e i. (right_old e (ins_only es v e i).0 (clear_in v e n i), left_old e (ins_only es v e i).0)) (B.ins_fan v l)
 
-    outs_under : (v : ℕ) → v < c → In v (u ∷ M) → Fan left' right' (outs v 0 es) (B.left_at v) (suc ears)
+    outs_under : (v : ℕ) → v < c → In v (u ∷ M) → Fan left' right' (file_outs v 0 es) (B.left_at v) (suc ears)
     outs_under v l i =
         let n = next_of (RightEdge es) u M w v covered i in
         let r : RightEdge es v n.0 = n.2 in
@@ -465,7 +464,7 @@ module _ (es : List (ℕ × ℕ)) (X : List ℕ) (u : ℕ) (M : List ℕ) (w : �
         (λ e j. let o : e < length es = (outs_only es v e (subst (In e) (sym r.last_out) (in_left (r.edge ∷ []) j))).0 in (left_old e o, right_old e o (clear_before v n.0 r e j))) s.0)
         (left_old r.edge le, right_under r.edge le (is_under v n.0 i r)))
 
-    ins_under : (v : ℕ) → v < c → In v (M ++ w ∷ []) → Fan right' left' (ins v 0 es) (suc ears) (B.left_at v)
+    ins_under : (v : ℕ) → v < c → In v (M ++ w ∷ []) → Fan right' left' (file_ins v 0 es) (suc ears) (B.left_at v)
     ins_under v l i =
         let n = prev_of (RightEdge es) u M w v covered i in
         let r : RightEdge es n.0 v = n.2 in
@@ -486,51 +485,51 @@ module _ (es : List (ℕ × ℕ)) (X : List ℕ) (u : ℕ) (M : List ℕ) (w : �
     new_edge_in : (v x : ℕ) (E : EarEdge ear (length es) v x) → Fan right' left' (E.edge ∷ []) 0 (suc ears)
     new_edge_in v x E = (right_new E.edge E.new, left_new E.edge E.new)
 
-    outs_u : Fan left' right' (outs u 0 grown) (left_at' u) (right_at' u)
+    outs_u : Fan left' right' (file_outs u 0 grown) (left_at' u) (right_at' u)
     outs_u =
         let n = next_of (EarEdge ear (length es)) u (range c k) w u chain (here refl) in
-        fan_to left' right' (outs u 0 grown) (outs u 0 es ++ n.2.edge ∷ []) (left_at' u) (B.left_at u) (right_at' u) 0
+        fan_to left' right' (file_outs u 0 grown) (file_outs u 0 es ++ n.2.edge ∷ []) (left_at' u) (B.left_at u) (right_at' u) 0
         (outs_more u n.0 n.2) (left_at_old u u_old) (right_at_old u u_old (λ j. not_u u (in_left (w ∷ Y) j) refl) ∙ B.row_right u (in_right X (here refl)))
-        (Fan-append left' right' (outs u 0 es) (n.2.edge ∷ []) (B.left_at u) (suc ears) 0 (outs_under u u_old (here refl)) (new_edge_out u n.0 n.2))
+        (Fan-append left' right' (file_outs u 0 es) (n.2.edge ∷ []) (B.left_at u) (suc ears) 0 (outs_under u u_old (here refl)) (new_edge_out u n.0 n.2))
 
-    ins_w : Fan right' left' (ins w 0 grown) (right_at' w) (left_at' w)
+    ins_w : Fan right' left' (file_ins w 0 grown) (right_at' w) (left_at' w)
     ins_w =
         let n = prev_of (EarEdge ear (length es)) u (range c k) w w chain (in_right (range c k) (here refl)) in
-        fan_to right' left' (ins w 0 grown) (n.2.edge ∷ ins w 0 es) (right_at' w) 0 (left_at' w) (B.left_at w)
+        fan_to right' left' (file_ins w 0 grown) (n.2.edge ∷ file_ins w 0 es) (right_at' w) 0 (left_at' w) (B.left_at w)
         (ins_more n.0 w n.2) (right_at_old w w_old (not_m w (here refl)) ∙ B.row_right w (in_right X (there (in_right M (here refl))))) (left_at_old w w_old)
-        (Fan-append right' left' (n.2.edge ∷ []) (ins w 0 es) 0 (suc ears) (B.left_at w) (new_edge_in n.0 w n.2) (ins_under w w_old (in_right M (here refl))))
+        (Fan-append right' left' (n.2.edge ∷ []) (file_ins w 0 es) 0 (suc ears) (B.left_at w) (new_edge_in n.0 w n.2) (ins_under w w_old (in_right M (here refl))))
 
-    outs_at : (v : ℕ) → v < c + k → Fan left' right' (outs v 0 grown) (left_at' v) (right_at' v)
+    outs_at : (v : ℕ) → v < c + k → Fan left' right' (file_outs v 0 grown) (left_at' v) (right_at' v)
     outs_at v l = elim (cases_lt v c) [
       | inl o ↦ elim (in_dec v (u ∷ M)) [
         | inl i ↦ elim (In-cases i) [
-          | inl q ↦ subst (λ z. Fan left' right' (outs z 0 grown) (left_at' z) (right_at' z)) (sym q) outs_u
-          | inr j ↦ fan_to left' right' (outs v 0 grown) (outs v 0 es) (left_at' v) (B.left_at v) (right_at' v) (suc ears)
+          | inl q ↦ subst (λ z. Fan left' right' (file_outs z 0 grown) (left_at' z) (right_at' z)) (sym q) outs_u
+          | inr j ↦ fan_to left' right' (file_outs v 0 grown) (file_outs v 0 es) (left_at' v) (B.left_at v) (right_at' v) (suc ears)
               (outs_kept v o (not_u v (in_left (w ∷ Y) j))) (left_at_old v o) (right_at_under v o j) (outs_under v o i)
         ]
-        | inr n ↦ fan_to left' right' (outs v 0 grown) (outs v 0 es) (left_at' v) (B.left_at v) (right_at' v) (B.right_at v)
+        | inr n ↦ fan_to left' right' (file_outs v 0 grown) (file_outs v 0 es) (left_at' v) (B.left_at v) (right_at' v) (B.right_at v)
             (outs_kept v o (λ q. n (here q))) (left_at_old v o) (right_at_old v o (λ j. n (there j))) (outs_clear v o n)
       ]
       | inr h ↦
           let n = next_of (EarEdge ear (length es)) u (range c k) w v chain (there (range_all c k v h l)) in
-          fan_to left' right' (outs v 0 grown) (n.2.edge ∷ []) (left_at' v) (suc ears) (right_at' v) 0
+          fan_to left' right' (file_outs v 0 grown) (n.2.edge ∷ []) (left_at' v) (suc ears) (right_at' v) 0
           (outs_more v n.0 n.2 ∙ ap (λ z. z ++ n.2.edge ∷ []) (R.none_out v h)) (left_at_new v h) (right_at_new v h) (new_edge_out v n.0 n.2)
     ]
 
-    ins_at : (v : ℕ) → v < c + k → Fan right' left' (ins v 0 grown) (right_at' v) (left_at' v)
+    ins_at : (v : ℕ) → v < c + k → Fan right' left' (file_ins v 0 grown) (right_at' v) (left_at' v)
     ins_at v l = elim (cases_lt v c) [
       | inl o ↦ elim (in_dec v (M ++ w ∷ [])) [
         | inl i ↦ elim (cases_eq v w) [
-          | inl q ↦ subst (λ z. Fan right' left' (ins z 0 grown) (right_at' z) (left_at' z)) (sym q) ins_w
-          | inr n ↦ fan_to right' left' (ins v 0 grown) (ins v 0 es) (right_at' v) (suc ears) (left_at' v) (B.left_at v)
+          | inl q ↦ subst (λ z. Fan right' left' (file_ins z 0 grown) (right_at' z) (left_at' z)) (sym q) ins_w
+          | inr n ↦ fan_to right' left' (file_ins v 0 grown) (file_ins v 0 es) (right_at' v) (suc ears) (left_at' v) (B.left_at v)
               (ins_kept v o n) (right_at_under v o (in_middle v n i)) (left_at_old v o) (ins_under v o i)
         ]
-        | inr n ↦ fan_to right' left' (ins v 0 grown) (ins v 0 es) (right_at' v) (B.right_at v) (left_at' v) (B.left_at v)
+        | inr n ↦ fan_to right' left' (file_ins v 0 grown) (file_ins v 0 es) (right_at' v) (B.right_at v) (left_at' v) (B.left_at v)
             (ins_kept v o (λ q. n (in_right M (here q)))) (right_at_old v o (λ j. n (in_left (w ∷ []) j))) (left_at_old v o) (ins_clear v o n)
       ]
       | inr h ↦
           let n = prev_of (EarEdge ear (length es)) u (range c k) w v chain (in_left (w ∷ []) (range_all c k v h l)) in
-          fan_to right' left' (ins v 0 grown) (n.2.edge ∷ []) (right_at' v) 0 (left_at' v) (suc ears)
+          fan_to right' left' (file_ins v 0 grown) (n.2.edge ∷ []) (right_at' v) 0 (left_at' v) (suc ears)
           (ins_more n.0 v n.2 ∙ ap (λ z. n.2.edge ∷ z) (R.none_in v h)) (right_at_new v h) (left_at_new v h) (new_edge_in n.0 v n.2)
     ]
       where

@@ -6,7 +6,7 @@ use Rattle.std.proofs.lemmas.List.{take-append-le, drop-append-le, take-append-d
 use Rattle.std.proofs.lemmas.Bool.{cases_lt}
 use Rattle.std.proofs.Math.ListN.{length-set}
 use Rattle.std.specs.List.{concat}
-use Rattle.st_gen.specs.Chunks.{IsSpot, Holds, IsRow}
+use Rattle.st_gen.specs.Chunks.{IsSpot, Holds, IsChunked}
 
 -- ---- an edit of one chunk
 take_past : (A R : List ℕ) (o p : ℕ) → p ≡ length A + o → take p (A ++ R) ≡ A ++ take o R
@@ -154,20 +154,20 @@ module _ (cs : List (List ℕ)) (c b p : ℕ) (H : Holds cs c b p) (X : List ℕ
     before = H.before ∙ ap (λ z. length (concat z)) (sym (take-set cs c Y));
   }
 
-  pub row_inserted : (n : ℕ) → n ≡ length (concat cs) → n + 1 < 2 ^ 32 → p < length (concat cs) → (v : ℕ) (Y : List ℕ) → Y ≡ take (p - b) X ++ v ∷ drop (p - b) X → IsRow (slice_set cs c Y) (n + 1) c b
+  pub row_inserted : (n : ℕ) → n ≡ length (concat cs) → n + 1 < 2 ^ 32 → p < length (concat cs) → (v : ℕ) (Y : List ℕ) → Y ≡ take (p - b) X ++ v ∷ drop (p - b) X → IsChunked (slice_set cs c Y) (n + 1) c b
   row_inserted n q l m v Y e =
       let a : length (concat (slice_set cs c Y)) ≡ length (take p (concat cs) ++ v ∷ drop p (concat cs)) = ap (λ z. length z) (concat-inserted v Y e) in
       let d : length (take p (concat cs) ++ v ∷ drop p (concat cs)) ≡ length (concat cs) + 1 = length-inserted (concat cs) p v (omega arith) in
       record { length_is = omega arith; few = l; spot = spot_set Y }
 
-  pub row_removed : (n : ℕ) → n ≡ length (concat cs) → n < 2 ^ 32 → p < length (concat cs) → (Y : List ℕ) → Y ≡ take (p - b) X ++ drop (p - b + 1) X → IsRow (slice_set cs c Y) (n - 1) c b
+  pub row_removed : (n : ℕ) → n ≡ length (concat cs) → n < 2 ^ 32 → p < length (concat cs) → (Y : List ℕ) → Y ≡ take (p - b) X ++ drop (p - b + 1) X → IsChunked (slice_set cs c Y) (n - 1) c b
   row_removed n q l m Y e =
       let a : length (concat (slice_set cs c Y)) ≡ length (take p (concat cs) ++ drop (p + 1) (concat cs)) = ap (λ z. length z) (concat-removed Y e) in
       let d : length (take p (concat cs) ++ drop (p + 1) (concat cs)) ≡ length (concat cs) - 1 = length-removed (concat cs) p m in
       record { length_is = omega arith; few = omega arith; spot = spot_set Y }
 
 -- ---- other chunks of the same list
-pub row_cut : (cs ds : List (List ℕ)) (n c b : ℕ) → IsRow cs n c b → concat ds ≡ concat cs → take c ds ≡ take c cs → c < length ds → IsRow ds n c b
+pub row_cut : (cs ds : List (List ℕ)) (n c b : ℕ) → IsChunked cs n c b → concat ds ≡ concat cs → take c ds ≡ take c cs → c < length ds → IsChunked ds n c b
 row_cut cs ds n c b R q f l = record {
   length_is = R.length_is ∙ ap (λ z. length z) (sym q);
   few = R.few;

@@ -2,8 +2,7 @@
 use Rattle.std.proofs.Common.{ℕ, zero, suc, List, [], ◌∷◌, ◌++◌, length, get_or, take, drop, ◌≡◌, ◌<◌, inl, inr, refl, sym, ap, subst, arith}
 use Rattle.std.specs.Prelude.{map}
 use Rattle.st_ids.specs.Lists.{In, here, there, NoRepeat, Linked}
-use Rattle.st_ids.proofs.Public.{joined_once}
-use Rattle.st_ids.proofs.ListLemmas.{not_in_nil, In-cases, in_left, in_right, in_append, in_subst}
+use Rattle.st_ids.proofs.Public.{joined_once, not_in_nil, In-cases, in_left, in_right, in_append, in_subst}
 
 -- ---- the last element
 -- the last element, or d where there is none

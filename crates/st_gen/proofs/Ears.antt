@@ -7,7 +7,7 @@ use Rattle.std.proofs.Math.Nat.{mod-lt}
 use Rattle.std.specs.List.{All}
 use Rattle.rand_pcg.specs.Lcg.{Lcg}
 use Rattle.rand_pcg.specs.Pcg.{pcg32}
-use Rattle.st_gen.specs.Made.{range, ear_edges, Growth, with_ear, begin_of, end_of, size_of, grown, begun, Becomes, done, more, IsMade}
+use Rattle.st_gen.specs.Made.{range, ear_edges, Growth, with_ear, begin_of, ear_end, size_of, grown, begun, Becomes, done, more, IsMade}
 
 -- ---- an ear's edges
 pub ear_more : (old new : List (ℕ × ℕ)) (u v e to : ℕ) (whole : List (ℕ × ℕ)) → new ≡ old ++ (u, v) ∷ [] → v < e →
@@ -109,7 +109,7 @@ module _ (n seed vertices : ℕ) (s : Growth) (G : IsGrowing n seed vertices s) 
 -- the next ear, by the words that were drawn
 pub growing_more : (n seed vertices vertices' : ℕ) (s : Growth) → IsGrowing n seed vertices s → s.count < n → vertices' ≡ vertices →
     (a b c i j k : ℕ) (A B C : Lcg) → (a, A) ≡ pcg32 s.words → (b, B) ≡ pcg32 A → (c, C) ≡ pcg32 B →
-    i ≡ begin_of a s → j ≡ end_of i b s → k ≡ size_of n c s → Places s.right i j →
+    i ≡ begin_of a s → j ≡ ear_end i b s → k ≡ size_of n c s → Places s.right i j →
     (right : List ℕ) (edges : List (ℕ × ℕ)) → right ≡ take (i + 1) s.right ++ (range s.count k ++ drop j s.right) →
     edges ≡ s.edges ++ ear_edges (get_or s.right i 0) s.count k (get_or s.right j 0) →
     IsGrowing n seed vertices' (record { words = C; right = right; count = s.count + k; edges = edges })
@@ -135,8 +135,8 @@ growing_more n seed vertices vertices' s G l v a b c i j k A B C qa qb qc qi qj 
     i_is : i ≡ begin_of (pcg32 s.words).0 s
     i_is = qi ∙ ap (λ z. begin_of z s) (ap (λ z. z.0) qa)
 
-    j_is : j ≡ end_of (begin_of (pcg32 s.words).0 s) (pcg32 (pcg32 s.words).1).0 s
-    j_is = qj ∙ ap (λ z. end_of z b s) i_is ∙ ap (λ z. end_of (begin_of (pcg32 s.words).0 s) z s) (ap (λ z. z.0) qb ∙ ap (λ z. (pcg32 z).0) A_is)
+    j_is : j ≡ ear_end (begin_of (pcg32 s.words).0 s) (pcg32 (pcg32 s.words).1).0 s
+    j_is = qj ∙ ap (λ z. ear_end z b s) i_is ∙ ap (λ z. ear_end (begin_of (pcg32 s.words).0 s) z s) (ap (λ z. z.0) qb ∙ ap (λ z. (pcg32 z).0) A_is)
 
     k_is : k ≡ size_of n (pcg32 (pcg32 (pcg32 s.words).1).1).0 s
     k_is = qk ∙ ap (λ z. size_of n z s) (ap (λ z. z.0) qc ∙ ap (λ z. (pcg32 z).0) B_is)
@@ -146,4 +146,4 @@ growing_more n seed vertices vertices' s G l v a b c i j k A B C qa qb qc qi qj 
         ap (λ z. with_ear z i j k s) C_is
         ∙ ap (λ z. with_ear (pcg32 (pcg32 (pcg32 s.words).1).1).1 z j k s) i_is
         ∙ ap (λ z. with_ear (pcg32 (pcg32 (pcg32 s.words).1).1).1 (begin_of (pcg32 s.words).0 s) z k s) j_is
-        ∙ ap (λ z. with_ear (pcg32 (pcg32 (pcg32 s.words).1).1).1 (begin_of (pcg32 s.words).0 s) (end_of (begin_of (pcg32 s.words).0 s) (pcg32 (pcg32 s.words).1).0 s) z s) k_is
+        ∙ ap (λ z. with_ear (pcg32 (pcg32 (pcg32 s.words).1).1).1 (begin_of (pcg32 s.words).0 s) (ear_end (begin_of (pcg32 s.words).0 s) (pcg32 (pcg32 s.words).1).0 s) z s) k_is

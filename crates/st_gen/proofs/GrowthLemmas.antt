@@ -5,9 +5,9 @@ use Rattle.rand_pcg.specs.Pcg.{pcg32}
 use Rattle.std.proofs.lemmas.Bool.{cases_eq}
 use Rattle.st_ids.specs.Graph.{tail_of, head_of}
 use Rattle.st_ids.specs.Lists.{In}
-use Rattle.st_ids.proofs.ListLemmas.{not_in_nil, In-cases}
-use Rattle.st_input.specs.Orders.{outs, ins}
-use Rattle.st_gen.specs.Made.{range, ear_edges, Growth, with_ear, begin_of, end_of, size_of, grown, begun, Becomes, done, more, IsMade}
+use Rattle.st_ids.proofs.Public.{not_in_nil, In-cases}
+use Rattle.st_input.specs.Orders.{file_outs, file_ins}
+use Rattle.st_gen.specs.Made.{range, ear_edges, Growth, with_ear, begin_of, ear_end, size_of, grown, begun, Becomes, done, more, IsMade}
 use Rattle.st_gen.proofs.Ears.{Places, places, length-ear_edges}
 use Rattle.st_gen.proofs.EarLists.{Span, span_of}
 use Rattle.st_gen.proofs.DefaultOrders.{outs_all, ins_all, ear_outs_none, ear_ins_none}
@@ -30,7 +30,7 @@ fan_of_zeros [] = refl
 fan_of_zeros (e ∷ es) = (refl, fan_of_zeros es)
 
 first_edge : RightEdge ((0, 1) ∷ []) 0 1
-unfolding outs ins
+unfolding file_outs file_ins
 first_edge = record { edge = 0; before = []; after = []; last_out = refl; first_in = refl }
 
 first_row : IsRow ((0, 1) ∷ []) (0 ∷ 1 ∷ []) 2
@@ -55,8 +55,8 @@ first_rising = record {
   ];
   source = ear_ins_none 0 0 2 0 1 0 (λ q. omega arith) (λ a b. omega arith);
   sink = ear_outs_none 1 0 2 0 1 0 (λ q. omega arith) (λ a b. omega arith);
-  some_in = λ v l n. (0, subst (λ z. In 0 (ins z 0 ((0, 1) ∷ []))) (let q : 1 ≡ v = omega (arith, n) in q) (ins_all ((0, 1) ∷ []) 1 0 (omega arith) refl));
-  some_out = λ v l n. (0, subst (λ z. In 0 (outs z 0 ((0, 1) ∷ []))) (let q : 0 ≡ v = omega (arith, n) in q) (outs_all ((0, 1) ∷ []) 0 0 (omega arith) refl));
+  some_in = λ v l n. (0, subst (λ z. In 0 (file_ins z 0 ((0, 1) ∷ []))) (let q : 1 ≡ v = omega (arith, n) in q) (ins_all ((0, 1) ∷ []) 1 0 (omega arith) refl));
+  some_out = λ v l n. (0, subst (λ z. In 0 (file_outs z 0 ((0, 1) ∷ []))) (let q : 0 ≡ v = omega (arith, n) in q) (outs_all ((0, 1) ∷ []) 0 0 (omega arith) refl));
 }
 
 eared_begun : (seed : ℕ) → IsEared (begun seed)
@@ -71,8 +71,8 @@ eared_begun seed = record {
     right = λ e. 0;
     left_at = λ v. 0;
     right_at = λ v. 0;
-    outs_fan = λ v l. fan_of_zeros (outs v 0 ((0, 1) ∷ []));
-    ins_fan = λ v l. fan_of_zeros (ins v 0 ((0, 1) ∷ []));
+    outs_fan = λ v l. fan_of_zeros (file_outs v 0 ((0, 1) ∷ []));
+    ins_fan = λ v l. fan_of_zeros (file_ins v 0 ((0, 1) ∷ []));
     row_right = λ v i. refl;
     few_left = λ e. omega arith;
     few_right = λ e. omega arith;
@@ -129,7 +129,7 @@ eared_grown n s E l =
     let a : ℕ × Lcg = pcg32 s.words in
     let b : ℕ × Lcg = pcg32 a.1 in
     let c : ℕ × Lcg = pcg32 b.1 in
-    eared_ear s E c.1 (begin_of a.0 s) (end_of (begin_of a.0 s) b.0 s) (size_of n c.0 s)
+    eared_ear s E c.1 (begin_of a.0 s) (ear_end (begin_of a.0 s) b.0 s) (size_of n c.0 s)
     (places s.right (length s.right) a.0 b.0 (min (length s.right - 1 - begin_of a.0 s) 4) refl E.long refl)
     (some_of c.0)
   where

@@ -1,10 +1,11 @@
-pub mod ChunkLemmas
-pub mod Ears
-pub mod MadeLemmas
-pub mod PlainLemmas
-pub mod EarLists
-pub mod DefaultOrders
-pub mod FanLemmas
-pub mod BesideLemmas
-pub mod GrowthLemmas
-pub mod AcceptedLemmas
+mod ChunkLemmas
+mod Ears
+mod MadeLemmas
+mod PlainLemmas
+mod EarLists
+mod DefaultOrders
+mod FanLemmas
+mod BesideLemmas
+mod GrowthLemmas
+mod AcceptedLemmas
+pub mod Public

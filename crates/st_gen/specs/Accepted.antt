@@ -14,7 +14,7 @@ use Rattle.st_map.specs.declared.orders.MapFault.{MapFault}
 use Rattle.st_map.specs.declared.orders.MapFault.TheVariants as map_fault
 use Rattle.st_test.specs.Planar.{IsPlanarSt, outer_of}
 use Rattle.st_test.specs.Poles.{ArePoles, graph_of}
-use Rattle.st_test.specs.PolesAnswer.{IsFirstFault}
+use Rattle.st_test.specs.PolesAnswer.{IsFirstDigraphFault}
 use Rattle.st_test.specs.Verdict.{IsEmbedFault}
 use Rattle.st_test.specs.declared.digraph_fault.DigraphFault.{DigraphFault}
 use Rattle.st_test.specs.declared.digraph_fault.DigraphFault.TheVariants as digraph
@@ -32,7 +32,7 @@ pub record PassesTests (g : Graph) (orders : List (List ℕ)) (s t : ℕ) : Type
   pub lists : (v : ℕ) → v < g.vertices → IsOrderAt g.ends v (order_at orders v)
   pub planar : IsPlanarSt (embed g orders) s t (outer_of (embed g orders) s None)
   pub only_poles : (a b : ℕ) → ArePoles g a b → (a ≡ s) × (b ≡ t)
-  pub no_digraph_fault : (f : DigraphFault) → f ≢ digraph.NoMemory → IsFirstFault g f → ⊥
+  pub no_digraph_fault : (f : DigraphFault) → f ≢ digraph.NoMemory → IsFirstDigraphFault g f → ⊥
   pub no_map_fault : (f : MapFault) → f ≢ map_fault.NoMemory → IsMapFault g orders f → ⊥
   pub no_embed_fault : (f : EmbedFault) → f ≢ embedding.NoMemory → IsEmbedFault (embed g orders) s t (outer_of (embed g orders) s None) f → ⊥
 

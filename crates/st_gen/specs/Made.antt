@@ -49,8 +49,8 @@ abbrev pub begin_of : ℕ → Growth → ℕ
 begin_of word s = word % (length s.right - 1)
 
 -- the place where an ear from i on ends, by a word: one to four places further on
-abbrev pub end_of : ℕ → ℕ → Growth → ℕ
-end_of i word s = i + 1 + word % min (length s.right - 1 - i) 4
+abbrev pub ear_end : ℕ → ℕ → Growth → ℕ
+ear_end i word s = i + 1 + word % min (length s.right - 1 - i) 4
 
 -- how many vertices an ear has, by a word: one to three, and no more than are wanted
 abbrev pub size_of : ℕ → ℕ → Growth → ℕ
@@ -62,7 +62,7 @@ grown n s =
     let a = pcg32 s.words in
     let b = pcg32 a.1 in
     let c = pcg32 b.1 in
-    with_ear c.1 (begin_of a.0 s) (end_of (begin_of a.0 s) b.0 s) (size_of n c.0 s) s
+    with_ear c.1 (begin_of a.0 s) (ear_end (begin_of a.0 s) b.0 s) (size_of n c.0 s) s
 
 -- two vertices and the edge from the one to the other
 abbrev pub begun : ℕ → Growth

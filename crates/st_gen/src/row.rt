@@ -34,13 +34,13 @@ pub struct Row {
 impl Model for Row {
     ghost use Rattle.std.specs.Prelude.{List, ℕ};
     ghost use Rattle.std.specs.List.{concat};
-    ghost use Rattle.st_gen.specs.Chunks.{IsRow};
+    ghost use Rattle.st_gen.specs.Chunks.{IsChunked};
 
     ghost Value = { List ℕ };
 
     ghost view = { λ a. concat a.chunks.items };
 
-    ghost invariant = { λ a. IsRow a.chunks.items a.len a.last.chunk a.last.before };
+    ghost invariant = { λ a. IsChunked a.chunks.items a.len a.last.chunk a.last.before };
 }
 
 impl Row {

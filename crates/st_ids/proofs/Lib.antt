@@ -1,6 +1,6 @@
-pub mod GraphLemmas
-pub mod ListLemmas
-pub mod WalkLemmas
-pub mod FiniteLemmas
+mod GraphLemmas
+mod ListLemmas
+mod WalkLemmas
+mod FiniteLemmas
 mod PieceLemmas
 pub mod Public

@@ -3,6 +3,9 @@ use Rattle.std.proofs.Common.{ℕ, zero, suc, List, [], ◌∷◌, ◌++◌, ◌
 use Rattle.std.proofs.lemmas.Bool.{cases_eq}
 use Rattle.st_ids.specs.Lists.{In, here, there, NoRepeat}
 use Rattle.st_ids.proofs.ListLemmas.{in_append}
+pub use Rattle.st_ids.proofs.FiniteLemmas.{IsWithin, Without, down, in_map, length-le_from_below, up, without}
+pub use Rattle.st_ids.proofs.ListLemmas.{Cut, First, FirstIs-weaken, In-cases, Precedes-left, Precedes-right, Precedes_irrefl, Precedes_trans, cut_at, first_of, in_append, in_dec, in_left, in_right, in_subst, in_turn, not_in_nil, turn, turn_before, turn_left, turn_once, turn_right, turned_Precedes, turned_apart, turned_once}
+pub use Rattle.st_ids.proofs.WalkLemmas.{Part, apart, arrives, departs, halves, in_order, no_loop, none_from_end, on_walk, part_of, reach_arc, reach_refl, reach_trans, unique_tail, walk_append, walk_from, walk_once, walk_to}
 
 -- two lists without repeats that share no element have none together
 pub joined_once : (xs ys : List ℕ) → NoRepeat xs → NoRepeat ys → ((x : ℕ) → In x xs → In x ys → ⊥) → NoRepeat (xs ++ ys)

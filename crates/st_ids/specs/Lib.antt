@@ -6,3 +6,4 @@ pub mod Pieces
 pub mod Walks
 pub mod Graph
 pub mod Undirected
+pub mod Lengths

@@ -3,7 +3,7 @@ use Rattle.std.proofs.Common.{◌≡◌, ℕ, ℤ, List, length, map, refl, ap, 
 use Rattle.st_ids.specs.Graph.{Graph}
 use Rattle.st_ids.specs.declared.ends.Dart.{Dart}
 use Rattle.st_input.specs.Faults.{node_name, node_names, edge_names, ends_in}
-use Rattle.st_input.specs.Found.{IsFound, tabled}
+use Rattle.st_input.specs.Found.{IsFoundInParts, tabled}
 use Rattle.st_input.specs.InputGraph.{InputGraph}
 use Rattle.st_input.specs.Embedding.{embedded_in, outer_end}
 use Rattle.st_input.specs.Orders.{AreAt, extended, is_free, default_order}
@@ -23,7 +23,7 @@ same_graph : (g : Graph) (n m : ℕ) (es fs : List (ℕ × ℕ)) → g ≡ recor
 same_graph g n m es fs is e0 e1 = is ∙ rw (e0, e1) refl
 
 -- the tables, from what each call made
-pub built : (p : Parts) (f : Found) (g : Graph) (n : ℕ) (s1 s2 : List Node) (s3 : List Edge) (t : List (ℕ × ℕ)) (os : List (List ℕ)) (vs es : List ℤ) → IsFound p f → g ≡ record { vertices = n; ends = f.ends } → n ≡ length p.nodes → s1 ≡ p.nodes → t ≡ g.ends → length os ≡ length s1 → AreAt (length s1) os (extended (map is_free s1) f.orders (default_order t)) → s2 ≡ p.nodes → vs ≡ map node_name s2 → s3 ≡ p.edges → es ≡ edge_names s3 → tabled g (record { vertex = vs; edge = es; label = p.labels }) os f.outer p.paths ≡ embedded_in p
+pub built : (p : Parts) (f : Found) (g : Graph) (n : ℕ) (s1 s2 : List Node) (s3 : List Edge) (t : List (ℕ × ℕ)) (os : List (List ℕ)) (vs es : List ℤ) → IsFoundInParts p f → g ≡ record { vertices = n; ends = f.ends } → n ≡ length p.nodes → s1 ≡ p.nodes → t ≡ g.ends → length os ≡ length s1 → AreAt (length s1) os (extended (map is_free s1) f.orders (default_order t)) → s2 ≡ p.nodes → vs ≡ map node_name s2 → s3 ≡ p.edges → es ≡ edge_names s3 → tabled g (record { vertex = vs; edge = es; label = p.labels }) os f.outer p.paths ≡ embedded_in p
 built p f g n s1 s2 s3 t os vs es found graph count nodes1 ends size are nodes2 vertices edges names =
     let pairs : t ≡ ends_in (node_names p.nodes) p.edges = ends ∙ ap (λ (h : Graph). h.ends) graph ∙ found.ends in
     let at_nodes = subst (λ (l : List Node). AreAt (length l) os (extended (map is_free l) f.orders (default_order t))) nodes1 are in

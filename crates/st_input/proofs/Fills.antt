@@ -8,13 +8,13 @@ use Rattle.st_parts.specs.declared.parts.Mention.{Mention}
 use Rattle.st_parts.specs.declared.parts.Node.{Node}
 use Rattle.st_input.specs.Faults.{written, written_in}
 use Rattle.st_input.proofs.FitLemmas.{orders_length}
-use Rattle.st_input.specs.Orders.{is_free, default_order, order_from, orders_from, full_orders, AreAt, Filled, extended, one, outs, ins, outs_from, ins_from}
+use Rattle.st_input.specs.Orders.{is_free, default_order, order_from, orders_from, full_orders, AreAt, Filled, extended, one, file_outs, file_ins, outs_from, ins_from}
 
 -- one edge more at the end
-pub outs-push : (v e : ℕ) (ends : List (ℕ × ℕ)) (a : ℕ × ℕ) → outs v e (ends ++ a ∷ []) ≡ outs v e ends ++ one a.0 (e + length ends) v
-unfolding outs
-outs-push v e [] a = grind (arith, common_steps)
-outs-push v e (b ∷ ends) a = grind (arith, common_steps, outs-push v (e + 1) ends a)
+pub file_outs-push : (v e : ℕ) (ends : List (ℕ × ℕ)) (a : ℕ × ℕ) → file_outs v e (ends ++ a ∷ []) ≡ file_outs v e ends ++ one a.0 (e + length ends) v
+unfolding file_outs
+file_outs-push v e [] a = grind (arith, common_steps)
+file_outs-push v e (b ∷ ends) a = grind (arith, common_steps, file_outs-push v (e + 1) ends a)
 
 -- a list in place of the one at t
 pub put_more : (free : List Bool) (now : List (List ℕ)) (t : ℕ) (x : ℕ) → t < length now → get_or free t false ≡ true → AreAt (length free) (set now t (get_or now t [] ++ x ∷ [])) (extended free now (one t x))
@@ -49,11 +49,11 @@ filled_more free old now new more next t x filled size are adds = record { size 
     at v lt = are v lt ∙ ap (λ (l : List ℕ). l ++ cond (get_or free v false) (one t x v) []) (filled.lists v lt) ∙ join (get_or free v false) (get_or old v []) (more v) (one t x v) ∙ ap (λ (l : List ℕ). get_or old v [] ++ cond (get_or free v false) l []) (sym (adds v))
 
 pub outs_none : (v : ℕ) → outs_from 0 [] v ≡ []
-unfolding outs
+unfolding file_outs
 outs_none v = refl
 
 pub ins_none : (i v : ℕ) → ins_from i [] v ≡ []
-unfolding ins
+unfolding file_ins
 ins_none i v = refl
 
 pub outs_more : (ends : List (ℕ × ℕ)) (i : ℕ) (d : ℕ × ℕ) → i < length ends → (v : ℕ) → outs_from 0 (take (i + 1) ends) v ≡ outs_from 0 (take i ends) v ++ one (get_or ends i d).0 (i) v
@@ -61,10 +61,10 @@ outs_more ends i d lt v =
     let within : i ≤ length ends = omega arith in
     let size : length (take i ends) ≡ i = length-take-le i ends within in
     let number : 0 + length (take i ends) ≡ i = omega arith in
-    ap (λ (l : List (ℕ × ℕ)). outs v 0 l) (take_more ends i d lt) ∙ outs-push v 0 (take i ends) (get_or ends i d) ∙ ap (λ (k : ℕ). outs v 0 (take i ends) ++ one (get_or ends i d).0 (k) v) number
+    ap (λ (l : List (ℕ × ℕ)). file_outs v 0 l) (take_more ends i d lt) ∙ file_outs-push v 0 (take i ends) (get_or ends i d) ∙ ap (λ (k : ℕ). file_outs v 0 (take i ends) ++ one (get_or ends i d).0 (k) v) number
 
 pub ins_more : (ends : List (ℕ × ℕ)) (i : ℕ) (d : ℕ × ℕ) → i < length ends → (v : ℕ) → ins_from i (drop i ends) v ≡ ins_from (i + 1) (drop (i + 1) ends) v ++ one (get_or ends i d).1 (i) v
-unfolding ins
+unfolding file_ins
 ins_more ends i d lt v = rw (drop-cons ends i d) (rw add-one refl)
 
 pub ins_before : (ends : List (ℕ × ℕ)) (i k : ℕ) (d : ℕ × ℕ) → k + 1 ≡ i → i ≤ length ends → (v : ℕ) → ins_from k (drop k ends) v ≡ ins_from i (drop i ends) v ++ one (get_or ends k d).1 (k) v

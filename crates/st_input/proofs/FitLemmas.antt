@@ -5,15 +5,15 @@ use Rattle.std.proofs.lemmas.Bool.{eqb-false}
 use Rattle.std.proofs.lemmas.Bool.Decides.{nat_tests}
 use Rattle.std.proofs.lemmas.List.{length-map}
 use Rattle.st_ids.specs.Lists.{In}
-use Rattle.st_ids.proofs.ListLemmas.{not_in_nil, In-cases, in_append}
+use Rattle.st_ids.proofs.Public.{not_in_nil, In-cases, in_append}
 use Rattle.gml_core.specs.Trees.{Entry}
 use Rattle.st_parts.specs.Used.{has_key, each, first_str}
 use Rattle.st_parts.specs.Parts.{shown, shown_byte, shown_label, label_in, node_in, parts_in, pairs_in}
 use Rattle.st_input.specs.Names.{number_of, is_among, AreDifferent, positions}
-use Rattle.st_input.specs.Faults.{or_else, first_fault, name_fault, node_fault, node_name, node_names, mention_fault, order_fault, written_fault, orders_fault, edge_in, edges_in, edge_names, edge_ids, edge_id, all_named, same_fault, id_fault, ids_fault, ends_in, pair_in}
-use Rattle.st_input.specs.Orders.{outs, ins, default_order, order_from, orders_from, full_orders}
-use Rattle.st_input.specs.InputGraph.{IsShown, IsLabel, AreLabels, IsConsistent}
-use Rattle.st_input.specs.Embedding.{end_in, outer_end, embedded_in}
+use Rattle.st_input.specs.Faults.{or_else, first_fault, name_fault, node_fault, node_name, node_names, mention_fault, order_fault, written_fault, orders_fault, edge_number, edges_in, edge_names, edge_ids, edge_id, all_named, same_fault, id_fault, ids_fault, ends_in, pair_in}
+use Rattle.st_input.specs.Orders.{file_outs, file_ins, default_order, order_from, orders_from, full_orders}
+use Rattle.st_input.specs.InputGraph.{IsShownByte, IsLabel, AreShownLabels, IsConsistent}
+use Rattle.st_input.specs.Embedding.{written_end, outer_end, embedded_in}
 use Rattle.st_input.specs.FirstFault.{is_side, side_fault, outer_fault, parts_fault}
 use Rattle.st_input.specs.declared.fault.ShapeFault.{ShapeFault}
 use Rattle.st_input.specs.declared.fault.ShapeFault.TheVariants.{SameId, SameEdgeId, UnknownEdge, BadOuter}
@@ -114,10 +114,10 @@ each_all {A} P key f (e ∷ es) all v x found = by (has_key key e) v found (λ u
     by true (suc u) h rest = rest u h
     by false u h rest = rest u h
 
-shown_byte_is : (b : ℕ) → IsShown (shown_byte b)
+shown_byte_is : (b : ℕ) → IsShownByte (shown_byte b)
 shown_byte_is b = (grind (arith, nat_tests), grind (arith, nat_tests))
 
-all_shown : (bs : List ℕ) (k d : ℕ) → k < length (map shown_byte bs) → IsShown (get_or (map shown_byte bs) k d)
+all_shown : (bs : List ℕ) (k d : ℕ) → k < length (map shown_byte bs) → IsShownByte (get_or (map shown_byte bs) k d)
 all_shown [] k d lt = absurd (omega arith)
 all_shown (b ∷ bs) zero d lt = shown_byte_is b
 all_shown (b ∷ bs) (suc k) d lt = all_shown bs k d (omega arith)
@@ -150,7 +150,7 @@ label_is e bs h = by (first_str (codes "label") (pairs_in e)) h
     by None h = absurd (cc)
     by (Some b) h = shown_is b bs h
 
-pub labels_are : (key : List ℕ) (es : List Entry) → AreLabels (each key label_in es)
+pub labels_are : (key : List ℕ) (es : List Entry) → AreShownLabels (each key label_in es)
 labels_are key es v bs found = each_all (λ (o : Option (List ℕ)). (b : List ℕ) → o ≡ Some b → IsLabel b) key label_in es label_is v (Some bs) found bs refl
 
 -- ---- orders
@@ -158,30 +158,30 @@ one_is : (b : Bool) (e x : ℕ) → In x (cond b (e ∷ []) []) → x ≡ e
 one_is true e x i = elim (In-cases i) [ inl q ↦ q | inr n ↦ absurd (not_in_nil n) ]
 one_is false e x i = absurd (not_in_nil i)
 
-outs_within : (v e x : ℕ) (ends : List (ℕ × ℕ)) → In x (outs v e ends) → x < e + length ends
-unfolding outs
+outs_within : (v e x : ℕ) (ends : List (ℕ × ℕ)) → In x (file_outs v e ends) → x < e + length ends
+unfolding file_outs
 outs_within v e x [] i = absurd (not_in_nil i)
 outs_within v e x (a ∷ ends) i = elim (in_append (cond (eqb a.0 v) (e ∷ []) []) i) [
   | inl h ↦ let same : x ≡ e = one_is (eqb a.0 v) e x h in omega arith
   | inr h ↦ let more = outs_within v (e + 1) x ends h in omega arith
 ]
 
-ins_within : (v e x : ℕ) (ends : List (ℕ × ℕ)) → In x (ins v e ends) → x < e + length ends
-unfolding ins
+ins_within : (v e x : ℕ) (ends : List (ℕ × ℕ)) → In x (file_ins v e ends) → x < e + length ends
+unfolding file_ins
 ins_within v e x [] i = absurd (not_in_nil i)
-ins_within v e x (a ∷ ends) i = elim (in_append (ins v (e + 1) ends) i) [
+ins_within v e x (a ∷ ends) i = elim (in_append (file_ins v (e + 1) ends) i) [
   | inl h ↦ let more = ins_within v (e + 1) x ends h in omega arith
   | inr h ↦ let same : x ≡ e = one_is (eqb a.1 v) e x h in omega arith
 ]
 
 pub default_within : (ends : List (ℕ × ℕ)) (v x : ℕ) → In x (default_order ends v) → x < length ends
-default_within ends v x i = elim (in_append (outs v 0 ends) i) [
+default_within ends v x i = elim (in_append (file_outs v 0 ends) i) [
   | inl h ↦ let more = outs_within v 0 x ends h in omega arith
   | inr h ↦ let more = ins_within v 0 x ends h in omega arith
 ]
 
 -- a name without a fault is an edge
-pub named_within : (names : List ℤ) (m : Mention) → mention_fault names m ≡ None → edge_in names m < length names
+pub named_within : (names : List ℤ) (m : Mention) → mention_fault names m ≡ None → edge_number names m < length names
 named_within names m e = by (number_of names m.name) (UnknownEdge m.at) refl e
   where
     by : (o : Option ℕ) (f : ShapeFault) → number_of names m.name ≡ o → cond (is_some o) None (Some f) ≡ None → unwrap_or o 0 < length names
@@ -221,10 +221,10 @@ side_small : (s : ℤ) → is_side s ≡ true → nat_abs s < 2
 side_small (pos k) e = grind (arith, nat_tests)
 side_small (negsuc k) e = absurd (cc)
 
-side_within : (names : List ℤ) (at m : ℕ) (edge : Option Mention) (side : Option ℤ) → length names ≡ m → side_fault names at edge side ≡ None → IfSome (end_in names edge side) (λ d. d < 2 * m)
+side_within : (names : List ℤ) (at m : ℕ) (edge : Option Mention) (side : Option ℤ) → length names ≡ m → side_fault names at edge side ≡ None → IfSome (written_end names edge side) (λ d. d < 2 * m)
 side_within names at m (Some e) (Some s) size clear = by (is_side s) (BadOuter at) refl clear
   where
-    by : (b : Bool) (f : ShapeFault) → is_side s ≡ b → cond b (mention_fault names e) (Some f) ≡ None → 2 * edge_in names e + nat_abs s < 2 * m
+    by : (b : Bool) (f : ShapeFault) → is_side s ≡ b → cond b (mention_fault names e) (Some f) ≡ None → 2 * edge_number names e + nat_abs s < 2 * m
     by true f is h = let lt = named_within names e h in let small = side_small s is in omega arith
     by false f is h = absurd (cc)
 side_within names at m (Some e) None size clear = absurd (cc)
@@ -236,7 +236,7 @@ outer_within names m None size clear = tt
 outer_within names m (Some o) size clear = side_within names o.at m o.edge o.side size clear
 
 -- ---- all of it
-pub consistent_in : (p : Parts) (a b : ℕ) → parts_fault p a b ≡ None → length p.nodes < 2 ^ 30 → length p.edges < 2 ^ 30 → length p.labels ≡ length p.nodes → AreLabels p.labels → IsConsistent (embedded_in p)
+pub consistent_in : (p : Parts) (a b : ℕ) → parts_fault p a b ≡ None → length p.nodes < 2 ^ 30 → length p.edges < 2 ^ 30 → length p.labels ≡ length p.nodes → AreShownLabels p.labels → IsConsistent (embedded_in p)
 unfolding full_orders
 consistent_in p a b e few_nodes few_edges labels printable =
     let names = node_names p.nodes in
@@ -265,5 +265,5 @@ consistent_in p a b e few_nodes few_edges labels printable =
     }
 
 -- the labels of what a pair `graph` says
-pub labels_fit : (e : Entry) → (length (parts_in e).labels ≡ length (parts_in e).nodes) × AreLabels (parts_in e).labels
+pub labels_fit : (e : Entry) → (length (parts_in e).labels ≡ length (parts_in e).nodes) × AreShownLabels (parts_in e).labels
 labels_fit e = (each_length (codes "node") label_in node_in (pairs_in e), labels_are (codes "node") (pairs_in e))

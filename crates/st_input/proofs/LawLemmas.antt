@@ -3,7 +3,7 @@ use Rattle.std.proofs.Common.{◌≡◌, ◌<◌, ◌≤◌, ◌^◌, ℕ, Bool,
 use Rattle.std.proofs.lemmas.Bool.Decides.{nat_tests}
 use Rattle.std.proofs.lemmas.List.{length-map}
 use Rattle.gml_core.specs.Trees.{Entry, Entries, listed}
-use Rattle.st_parts.specs.Used.{first}
+use Rattle.st_parts.specs.Used.{first_with}
 use Rattle.st_parts.specs.Parts.{parts_in}
 use Rattle.st_input.specs.InputGraph.{InputGraph, IsConsistent}
 use Rattle.st_input.specs.Embedding.{embedded_in, embedded_graph}
@@ -47,7 +47,7 @@ limits_clear p max_n max_m e = last_clear (first_fault node_fault [] p.nodes) (f
 
 pub fits_together : (text : Entries) (max_n max_m : ℕ) (g : InputGraph) → max_n < 2 ^ 30 → max_m < 2 ^ 30 → shape_fault text max_n max_m ≡ None → embedded_graph text ≡ Some g → IsConsistent g
 unfolding shape_fault embedded_graph
-fits_together text max_n max_m g few_n few_m clear is = by (first (codes "graph") (listed text)) clear is
+fits_together text max_n max_m g few_n few_m clear is = by (first_with (codes "graph") (listed text)) clear is
   where
     by : (o : Option Entry) → graph_fault (listed text) o max_n max_m ≡ None → option_map (λ (e : Entry). embedded_in (parts_in e)) o ≡ Some g → IsConsistent g
     by None h q = absurd (cc)
@@ -64,7 +64,7 @@ fits_together text max_n max_m g few_n few_m clear is = by (first (codes "graph"
 
 pub within_limits : (text : Entries) (max_n max_m : ℕ) (g : InputGraph) → shape_fault text max_n max_m ≡ None → embedded_graph text ≡ Some g → (g.graph.vertices ≤ max_n) × (length g.graph.ends ≤ max_m)
 unfolding shape_fault embedded_graph
-within_limits text max_n max_m g clear is = by (first (codes "graph") (listed text)) clear is
+within_limits text max_n max_m g clear is = by (first_with (codes "graph") (listed text)) clear is
   where
     by : (o : Option Entry) → graph_fault (listed text) o max_n max_m ≡ None → option_map (λ (e : Entry). embedded_in (parts_in e)) o ≡ Some g → (g.graph.vertices ≤ max_n) × (length g.graph.ends ≤ max_m)
     by None h q = absurd (cc)

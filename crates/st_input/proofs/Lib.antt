@@ -1,12 +1,13 @@
-pub mod NameLemmas
-pub mod FitLemmas
-pub mod PathLemmas
-pub mod Fills
-pub mod BuildLemmas
-pub mod LawLemmas
-pub mod PlainLemmas
-pub mod ReadBack
-pub mod ZeroPlaces
-pub mod WrittenBack
-pub mod WrittenLemmas
-pub mod WritableLemmas
+mod NameLemmas
+mod FitLemmas
+mod PathLemmas
+mod Fills
+mod BuildLemmas
+mod LawLemmas
+mod PlainLemmas
+mod ReadBack
+mod ZeroPlaces
+mod WrittenBack
+mod WrittenLemmas
+mod WritableLemmas
+pub mod Public

@@ -3,7 +3,7 @@ use Rattle.std.proofs.Common.{◌≡◌, ◌<◌, ◌+◌, ℕ, zero, suc, ℤ, 
 use Rattle.std.specs.Option.{unwrap_or}
 use Rattle.st_ids.specs.Graph.{Graph}
 use Rattle.st_ids.specs.Lists.{In}
-use Rattle.st_ids.proofs.ListLemmas.{not_in_nil, In-cases}
+use Rattle.st_ids.proofs.Public.{not_in_nil, In-cases}
 use Rattle.st_input.specs.Names.{number_of}
 use Rattle.st_input.specs.Paths.{edge_by, edges_by, paths_by, name_fault, path_fault, first_unknown, ArePathsThere}
 use Rattle.st_input.specs.declared.fault.PathNameFault.{PathNameFault}

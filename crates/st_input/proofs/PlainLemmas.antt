@@ -12,9 +12,9 @@ use Rattle.st_ids.specs.Lists.{In}
 use Rattle.gml_core.specs.Trees.{Entry, Entries, none, more, listed, push}
 use Rattle.gml_core.specs.Views.{entries_of}
 use Rattle.st_input.specs.Found.{tabled}
-use Rattle.st_input.specs.InputGraph.{IsConsistent, AreLabels, AreListed}
+use Rattle.st_input.specs.InputGraph.{IsConsistent, AreShownLabels, AreListed}
 use Rattle.st_input.specs.Names.{AreDifferent, is_among, positions}
-use Rattle.st_input.specs.Orders.{IsWithin, Filled, default_order}
+use Rattle.st_input.specs.Orders.{HasEndsBelow, Filled, default_order}
 use Rattle.st_input.specs.Plain.{counted, default_orders, plain_graph}
 use Rattle.st_input.proofs.NameLemmas.{positions_length, positions_differ, other_pos}
 use Rattle.st_input.proofs.FitLemmas.{default_within}
@@ -67,13 +67,13 @@ counted_added n name old new is next e =
     e ∙ ap (λ (b : Bool). cond b old (old ++ name ∷ [])) fresh ∙ rw (is, next) (sym (counted_more n))
 
 -- ---- orders
-pub ends_within : (n : ℕ) (ends : List (ℕ × ℕ)) → AreWithin n ends → All (IsWithin n) ends
+pub ends_within : (n : ℕ) (ends : List (ℕ × ℕ)) → AreWithin n ends → All (HasEndsBelow n) ends
 unfolding tail_of head_of
 ends_within n ends within k d lt =
     let same : get_or ends k d ≡ get_or ends k (0, 0) = get_or_default ends k d (0, 0) lt in
-    subst (IsWithin n) (sym same) (within k lt)
+    subst (HasEndsBelow n) (sym same) (within k lt)
 
-pub free_within : (g : Graph) (n : ℕ) (free : List Bool) (ends : List (ℕ × ℕ)) → free ≡ replicate n true → n ≡ g.vertices → ends ≡ g.ends → AreWithin g.vertices g.ends → All (IsWithin (length free)) ends
+pub free_within : (g : Graph) (n : ℕ) (free : List Bool) (ends : List (ℕ × ℕ)) → free ≡ replicate n true → n ≡ g.vertices → ends ≡ g.ends → AreWithin g.vertices g.ends → All (HasEndsBelow (length free)) ends
 free_within g n free ends is count same within =
     let size : length free ≡ g.vertices = ap (λ (l : List Bool). length l) is ∙ length-replicate n true ∙ count in
     rw (size, same) (ends_within g.vertices g.ends within)
@@ -98,7 +98,7 @@ filled_default g free old new n m ends e0 e1 e2 e3 e4 filled =
     default_filled g free old new (e0 ∙ ap (λ (k : ℕ). replicate k true) e1) (e2 ∙ ap (λ (k : ℕ). replicate k []) e3) (subst (λ (l : List (ℕ × ℕ)). Filled free old new (default_order l)) e4 filled)
 
 -- ---- all tables
-no_label : (n : ℕ) → AreLabels (replicate n None)
+no_label : (n : ℕ) → AreShownLabels (replicate n None)
 no_label n v bs there =
     let within : v < length (replicate n none) = slice_get_within (replicate n none) v (Some bs) there in
     let lt : v < n = omega (arith, length-replicate n none) in

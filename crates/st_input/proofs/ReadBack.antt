@@ -11,12 +11,12 @@ use Rattle.st_ids.specs.Graph.{Graph, HasEnds}
 use Rattle.gml_core.specs.Trees.{int, atom, list, Entry, entry, Entries, none, more, listed}
 use Rattle.gml_core.specs.Views.{entries_of}
 use Rattle.gml_core.specs.Printing.{at_zero, entry_at_zero}
-use Rattle.st_parts.specs.Used.{first, each}
+use Rattle.st_parts.specs.Used.{first_with, each}
 use Rattle.st_parts.specs.Kinds.{earliest, part_wrong, graph_wrong}
 use Rattle.st_parts.specs.Parts.{parts_say, node_in, label_in, edge_in, path_in}
 use Rattle.st_input.specs.Names.{number_of, is_among, AreDifferent, positions}
-use Rattle.st_input.specs.Faults.{or_else, first_fault, node_fault, node_name, node_names, edge_fault, end_fault, ids_fault, edge_names, ends_in, pair_in, orders_fault}
-use Rattle.st_input.specs.Orders.{IsWithin, default_order, orders_from, full_orders}
+use Rattle.st_input.specs.Faults.{or_else, first_fault, node_fault, node_name, node_names, edge_fault, unknown_end_fault, ids_fault, edge_names, ends_in, pair_in, orders_fault}
+use Rattle.st_input.specs.Orders.{HasEndsBelow, default_order, orders_from, full_orders}
 use Rattle.st_input.specs.InputGraph.{InputGraph}
 use Rattle.st_input.specs.Embedding.{embedded_in, embedded_graph}
 use Rattle.st_input.specs.FirstFault.{limits_fault, text_fault, parts_fault, shape_fault}
@@ -45,7 +45,7 @@ record IsPlain (names table : List ℤ) (ends : List (ℕ × ℕ)) (xs : List En
   nodes : AreNodes names (each (codes "node") node_in xs)
   labels : each (codes "node") label_in xs ≡ replicate (length names) None
   edges : each (codes "edge") edge_in xs ≡ map (plain_edge table) ends
-  outer : first (codes "outer") xs ≡ None
+  outer : first_with (codes "outer") xs ≡ None
   paths : each (codes "path") path_in xs ≡ []
   kinds : earliest part_wrong xs ≡ None
 
@@ -223,21 +223,21 @@ number_counted n v lt =
         let differ : v + 1 ≢ k + 1 = omega arith in
         rw (counted_get n v (pos 0) lt, counted_get n k (pos 0) small) (other_pos (v + 1) (k + 1) differ)
 
-end_found : (n i v : ℕ) → v < n → end_fault (counted n) i (get_or (counted n) v (pos 0)) ≡ None
+end_found : (n i v : ℕ) → v < n → unknown_end_fault (counted n) i (get_or (counted n) v (pos 0)) ≡ None
 end_found n i v lt = rw (number_counted n v lt) refl
 
-ends_clear : (n : ℕ) (before : List Edge) (ends : List (ℕ × ℕ)) → All (IsWithin n) ends → first_fault (edge_fault (counted n)) before (map (plain_edge (counted n)) ends) ≡ None
+ends_clear : (n : ℕ) (before : List Edge) (ends : List (ℕ × ℕ)) → All (HasEndsBelow n) ends → first_fault (edge_fault (counted n)) before (map (plain_edge (counted n)) ends) ≡ None
 ends_clear n before [] all = refl
 ends_clear n before (a ∷ ends) all =
-    let here : IsWithin n a = all 0 a (omega arith) in
+    let here : HasEndsBelow n a = all 0 a (omega arith) in
     let tail = end_found n (length before) a.0 here.0 in
     let head = end_found n (length before) a.1 here.1 in
-    none_or (edge_fault (counted n) before (plain_edge (counted n) a)) (first_fault (edge_fault (counted n)) (before ++ plain_edge (counted n) a ∷ []) (map (plain_edge (counted n)) ends)) (none_or (end_fault (counted n) (length before) (get_or (counted n) a.0 (pos 0))) (end_fault (counted n) (length before) (get_or (counted n) a.1 (pos 0))) tail head) (ends_clear n (before ++ plain_edge (counted n) a ∷ []) ends (λ k d lt. all (suc k) d (omega arith)))
+    none_or (edge_fault (counted n) before (plain_edge (counted n) a)) (first_fault (edge_fault (counted n)) (before ++ plain_edge (counted n) a ∷ []) (map (plain_edge (counted n)) ends)) (none_or (unknown_end_fault (counted n) (length before) (get_or (counted n) a.0 (pos 0))) (unknown_end_fault (counted n) (length before) (get_or (counted n) a.1 (pos 0))) tail head) (ends_clear n (before ++ plain_edge (counted n) a ∷ []) ends (λ k d lt. all (suc k) d (omega arith)))
 
-ends_are : (n : ℕ) (ends : List (ℕ × ℕ)) → All (IsWithin n) ends → ends_in (counted n) (map (plain_edge (counted n)) ends) ≡ ends
+ends_are : (n : ℕ) (ends : List (ℕ × ℕ)) → All (HasEndsBelow n) ends → ends_in (counted n) (map (plain_edge (counted n)) ends) ≡ ends
 ends_are n [] all = refl
 ends_are n (a ∷ ends) all =
-    let here : IsWithin n a = all 0 a (omega arith) in
+    let here : HasEndsBelow n a = all 0 a (omega arith) in
     let pair : pair_in (counted n) (plain_edge (counted n) a) ≡ a = rw (number_counted n a.0 here.0, number_counted n a.1 here.1) refl in
     let rest = ends_are n ends (λ k d lt. all (suc k) d (omega arith)) in
     ap (λ (x : ℕ × ℕ). x ∷ ends_in (counted n) (map (plain_edge (counted n)) ends)) pair ∙ ap (λ (l : List (ℕ × ℕ)). a ∷ l) rest
@@ -254,7 +254,7 @@ names_positions table (a ∷ ends) = ap (λ (m : ℕ). positions (suc m)) (lengt
 pub limits_clear : (a b x y : ℕ) → a ≤ x → b ≤ y → limits_fault a b x y ≡ None
 limits_clear a b x y p q = grind (arith, nat_tests)
 
-graph_right : (xs : List Entry) → first (codes "outer") xs ≡ None → earliest part_wrong xs ≡ None → graph_wrong xs ≡ None
+graph_right : (xs : List Entry) → first_with (codes "outer") xs ≡ None → earliest part_wrong xs ≡ None → graph_wrong xs ≡ None
 graph_right xs e f = rw (e, f) refl
 
 -- what the pair `graph` of a plain graph says
@@ -266,7 +266,7 @@ parts_are g xs p =
     let labels : each (codes "node") label_in xs ≡ replicate g.vertices None = p.labels ∙ ap (λ (k : ℕ). replicate k None) (counted_length g.vertices) in
     rw (labels, p.edges, p.outer, p.paths) refl
 
-parts_clear : (g : Graph) (ns : List Node) (max_n max_m : ℕ) → All (IsWithin g.vertices) g.ends → AreNodes (counted g.vertices) ns → g.vertices ≤ max_n → length g.ends ≤ max_m → parts_fault (plain_parts g ns) max_n max_m ≡ None
+parts_clear : (g : Graph) (ns : List Node) (max_n max_m : ℕ) → All (HasEndsBelow g.vertices) g.ends → AreNodes (counted g.vertices) ns → g.vertices ≤ max_n → length g.ends ≤ max_m → parts_fault (plain_parts g ns) max_n max_m ≡ None
 parts_clear g ns max_n max_m all p few_n few_m =
     let n = g.vertices in
     let es = map (plain_edge (counted n)) g.ends in
@@ -286,7 +286,7 @@ orders_are g names ends ns p is = orders_default names (counted g.vertices) ends
 same_parts : (a b : ℕ) (e f : List (ℕ × ℕ)) (vs ws es fs : List ℤ) (ls : List (Option (List ℕ))) (os rs : List (List ℕ)) → a ≡ b → e ≡ f → vs ≡ ws → es ≡ fs → os ≡ rs → made (record { vertices = a; ends = e }) vs es ls os None [] ≡ made (record { vertices = b; ends = f }) ws fs ls rs None []
 same_parts a b e f vs ws es fs ls os rs e0 e1 e2 e3 e4 = rw (e0, e1, e2, e3, e4) refl
 
-parts_graph : (g : Graph) (ns : List Node) → All (IsWithin g.vertices) g.ends → AreNodes (counted g.vertices) ns → embedded_in (plain_parts g ns) ≡ plain_graph g
+parts_graph : (g : Graph) (ns : List Node) → All (HasEndsBelow g.vertices) g.ends → AreNodes (counted g.vertices) ns → embedded_in (plain_parts g ns) ≡ plain_graph g
 parts_graph g ns all p =
     let n = g.vertices in
     let es = map (plain_edge (counted n)) g.ends in
@@ -295,7 +295,7 @@ parts_graph g ns all p =
     let ends : ends_in (node_names ns) es ≡ g.ends = rw names (ends_are n g.ends all) in
     same_parts (length ns) n (ends_in (node_names ns) es) g.ends (node_names ns) (counted n) (edge_names es) (positions (length g.ends)) (replicate n None) (full_orders (edge_names es) (ends_in (node_names ns) es) ns) (default_orders g) count ends names (names_positions (counted n) g.ends) (orders_are g (edge_names es) (ends_in (node_names ns) es) ns p ends)
 
-inner_back : (g : Graph) (at max_n max_m : ℕ) (es : Entries) → All (IsWithin g.vertices) g.ends → g.vertices ≤ max_n → length g.ends ≤ max_m → IsPlain (counted g.vertices) (counted g.vertices) g.ends (listed es) → (shape_fault (more (entry (codes "graph") at (list es)) none) max_n max_m ≡ None) × (embedded_graph (more (entry (codes "graph") at (list es)) none) ≡ Some (plain_graph g))
+inner_back : (g : Graph) (at max_n max_m : ℕ) (es : Entries) → All (HasEndsBelow g.vertices) g.ends → g.vertices ≤ max_n → length g.ends ≤ max_m → IsPlain (counted g.vertices) (counted g.vertices) g.ends (listed es) → (shape_fault (more (entry (codes "graph") at (list es)) none) max_n max_m ≡ None) × (embedded_graph (more (entry (codes "graph") at (list es)) none) ≡ Some (plain_graph g))
 unfolding shape_fault embedded_graph
 inner_back g at max_n max_m es all few_n few_m p =
     let ns = each (codes "node") node_in (listed es) in

@@ -13,13 +13,13 @@ use Rattle.gml_core.specs.Lexing.{token, token_at, string_at}
 use Rattle.gml_core.specs.Sound.{IsSpelled, IsSound, IsWellDatum, IsWellEntry, AreWell, IsShortDatum, IsShortEntry, HaveShortLists}
 use Rattle.gml_core.specs.declared.token.TokenKind.TheVariants.{Str}
 use Rattle.gml_core.specs.declared.token.Token.{Token}
-use Rattle.st_parts.specs.Used.{has_key, first, each, str_of, list_of, first_str}
+use Rattle.st_parts.specs.Used.{has_key, first_with, each, str_of, list_of, first_str}
 use Rattle.st_parts.specs.Parts.{shown_byte, shown_label, mention_in, mentions_in, label_in, node_in, parts_in}
 use Rattle.st_parts.specs.declared.parts.Mention.{Mention}
 use Rattle.st_parts.specs.declared.parts.Node.{Node}
 use Rattle.st_input.specs.Faults.{edge_names}
-use Rattle.st_input.specs.Faults.{edge_in as edge_number}
-use Rattle.st_input.specs.Orders.{outs, ins, order_from, orders_from, full_orders}
+use Rattle.st_input.specs.Faults.{edge_number}
+use Rattle.st_input.specs.Orders.{file_outs, file_ins, order_from, orders_from, full_orders}
 use Rattle.st_input.specs.InputGraph.{InputGraph}
 use Rattle.st_input.specs.Embedding.{embedded_in, embedded_graph}
 use Rattle.st_input.specs.FirstFault.{shape_fault}
@@ -60,11 +60,11 @@ bytes_clear (suc n) (b ∷ bs) all zero d lt = byte_clear b (all 0 d (omega arit
 bytes_clear (suc n) (b ∷ bs) all (suc k) d lt = bytes_clear n bs (λ j e l. all (suc j) e (omega arith)) k d (omega arith)
 
 -- ---- labels
-str_clear : (k : List ℕ) (es : Entries) → AreWell es → (bs : List ℕ) → str_of (first k (listed es)) ≡ Some bs → All (λ b. b ≢ 34) bs
+str_clear : (k : List ℕ) (es : Entries) → AreWell es → (bs : List ℕ) → str_of (first_with k (listed es)) ≡ Some bs → All (λ b. b ≢ 34) bs
 str_clear k none w bs e = absurd (cc)
 str_clear k (more (entry j at d) es) w bs e = by (bytes_eq j k) d w.0.1 (str_clear k es w.1 bs) e
   where
-    by : (b : Bool) (d : Datum) → IsWellDatum d → (str_of (first k (listed es)) ≡ Some bs → All (λ x. x ≢ 34) bs) → str_of (cond b (Some (entry j at d)) (first k (listed es))) ≡ Some bs → All (λ x. x ≢ 34) bs
+    by : (b : Bool) (d : Datum) → IsWellDatum d → (str_of (first_with k (listed es)) ≡ Some bs → All (λ x. x ≢ 34) bs) → str_of (cond b (Some (entry j at d)) (first_with k (listed es))) ≡ Some bs → All (λ x. x ≢ 34) bs
     by false d v rest e = rest e
     by true (list l) v rest e = absurd (cc)
     by true (atom (int z)) v rest e = absurd (cc)
@@ -107,11 +107,11 @@ abbrev IsShortOrder : Option (List Mention) → Type 0
 IsShortOrder None = Unit {0}
 IsShortOrder (Some ms) = length ms < 2 ^ 31
 
-list_short : (k : List ℕ) (es : Entries) → HaveShortLists es → IsShortOrder (option_map mentions_in (list_of (first k (listed es))))
+list_short : (k : List ℕ) (es : Entries) → HaveShortLists es → IsShortOrder (option_map mentions_in (list_of (first_with k (listed es))))
 list_short k none s = tt
 list_short k (more (entry j at d) es) s = by (bytes_eq j k) d s.0 (list_short k es s.1)
   where
-    by : (b : Bool) (d : Datum) → IsShortDatum d → IsShortOrder (option_map mentions_in (list_of (first k (listed es)))) → IsShortOrder (option_map mentions_in (list_of (cond b (Some (entry j at d)) (first k (listed es)))))
+    by : (b : Bool) (d : Datum) → IsShortDatum d → IsShortOrder (option_map mentions_in (list_of (first_with k (listed es)))) → IsShortOrder (option_map mentions_in (list_of (cond b (Some (entry j at d)) (first_with k (listed es)))))
     by false d v rest = rest
     by true (atom (int z)) v rest = tt
     by true (atom (real bs)) v rest = tt
@@ -140,18 +140,18 @@ if_short : (b : Bool) (e : ℕ) → length (cond b (e ∷ []) []) ≤ 1
 if_short true e = omega arith
 if_short false e = omega arith
 
-outs_few : (v e : ℕ) (ends : List (ℕ × ℕ)) → length (outs v e ends) ≤ length ends
-unfolding outs
+outs_few : (v e : ℕ) (ends : List (ℕ × ℕ)) → length (file_outs v e ends) ≤ length ends
+unfolding file_outs
 outs_few v e [] = omega arith
-outs_few v e (a ∷ ends) = omega (arith, length-append (cond (eqb a.0 v) (e ∷ []) []) (outs v (e + 1) ends), if_short (eqb a.0 v) e, outs_few v (e + 1) ends)
+outs_few v e (a ∷ ends) = omega (arith, length-append (cond (eqb a.0 v) (e ∷ []) []) (file_outs v (e + 1) ends), if_short (eqb a.0 v) e, outs_few v (e + 1) ends)
 
-ins_few : (v e : ℕ) (ends : List (ℕ × ℕ)) → length (ins v e ends) ≤ length ends
-unfolding ins
+ins_few : (v e : ℕ) (ends : List (ℕ × ℕ)) → length (file_ins v e ends) ≤ length ends
+unfolding file_ins
 ins_few v e [] = omega arith
-ins_few v e (a ∷ ends) = omega (arith, length-append (ins v (e + 1) ends) (cond (eqb a.1 v) (e ∷ []) []), if_short (eqb a.1 v) e, ins_few v (e + 1) ends)
+ins_few v e (a ∷ ends) = omega (arith, length-append (file_ins v (e + 1) ends) (cond (eqb a.1 v) (e ∷ []) []), if_short (eqb a.1 v) e, ins_few v (e + 1) ends)
 
 order_few : (names : List ℤ) (ends : List (ℕ × ℕ)) (v : ℕ) (o : Option (List Mention)) → 2 * length ends < 2 ^ 31 → IsShortOrder o → length (order_from names ends v o) < 2 ^ 31
-order_few names ends v None m s = omega (arith, length-append (outs v 0 ends) (ins v 0 ends), outs_few v 0 ends, ins_few v 0 ends, m)
+order_few names ends v None m s = omega (arith, length-append (file_outs v 0 ends) (file_ins v 0 ends), outs_few v 0 ends, ins_few v 0 ends, m)
 order_few names ends v (Some ms) m s = omega (arith, length-map ms (edge_number names), s)
 
 orders_few : (names : List ℤ) (ends : List (ℕ × ℕ)) (a : ℕ) (ns : List Node) → 2 * length ends < 2 ^ 31 → AreShortOrders ns → (v : ℕ) → length (get_or (orders_from names ends a ns) v []) < 2 ^ 31
@@ -174,14 +174,14 @@ entry_written (entry j at (list es)) w s m = record {
   short = orders_few (edge_names (parts_in (entry j at (list es))).edges) (embedded_in (parts_in (entry j at (list es)))).graph.ends 0 (parts_in (entry j at (list es))).nodes m (nodes_short (codes "node") es s.1);
 }
 
-first_written : (k : List ℕ) (es : Entries) (g : InputGraph) → AreWell es → HaveShortLists es → 2 * length g.graph.ends < 2 ^ 31 → option_map (λ (e : Entry). embedded_in (parts_in e)) (first k (listed es)) ≡ Some g → CanBeWritten g
+first_written : (k : List ℕ) (es : Entries) (g : InputGraph) → AreWell es → HaveShortLists es → 2 * length g.graph.ends < 2 ^ 31 → option_map (λ (e : Entry). embedded_in (parts_in e)) (first_with k (listed es)) ≡ Some g → CanBeWritten g
 first_written k none g w s m e = absurd (cc)
 first_written k (more (entry j at d) es) g w s m e = by (bytes_eq j k) (first_written k es g w.1 s.1 m) e
   where
     same : embedded_in (parts_in (entry j at d)) ≡ g → CanBeWritten g
     same q = subst CanBeWritten q (entry_written (entry j at d) w.0 s.0 (subst (λ (h : InputGraph). 2 * length h.graph.ends < 2 ^ 31) (sym q) m))
 
-    by : (b : Bool) → (option_map (λ (e : Entry). embedded_in (parts_in e)) (first k (listed es)) ≡ Some g → CanBeWritten g) → option_map (λ (e : Entry). embedded_in (parts_in e)) (cond b (Some (entry j at d)) (first k (listed es))) ≡ Some g → CanBeWritten g
+    by : (b : Bool) → (option_map (λ (e : Entry). embedded_in (parts_in e)) (first_with k (listed es)) ≡ Some g → CanBeWritten g) → option_map (λ (e : Entry). embedded_in (parts_in e)) (cond b (Some (entry j at d)) (first_with k (listed es))) ≡ Some g → CanBeWritten g
     by true rest q = same (cc)
     by false rest q = rest q
 

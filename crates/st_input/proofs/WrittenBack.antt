@@ -15,7 +15,7 @@ use Rattle.st_ids.specs.Lists.{In, here, there}
 use Rattle.gml_core.specs.Trees.{list, Entry, entry, Entries, none, more, listed}
 use Rattle.gml_core.specs.Views.{entries_of}
 use Rattle.gml_core.specs.Printing.{at_zero, entry_at_zero}
-use Rattle.st_parts.specs.Used.{has_key, first, each}
+use Rattle.st_parts.specs.Used.{has_key, first_with, each}
 use Rattle.st_parts.specs.Kinds.{earliest, name_wrong_of, names_wrong, node_wrong, outer_wrong, inside_of, part_wrong, graph_wrong}
 use Rattle.st_parts.specs.Parts.{shown_byte, shown, mention_in, mentions_in, node_says, label_says, outer_in, parts_say, node_in, label_in, edge_in, path_in}
 use Rattle.st_parts.specs.declared.parts.Mention.{Mention}
@@ -24,10 +24,10 @@ use Rattle.st_parts.specs.declared.parts.Edge.{Edge}
 use Rattle.st_parts.specs.declared.parts.Outer.{Outer}
 use Rattle.st_parts.specs.declared.parts.Parts.{Parts}
 use Rattle.st_input.specs.Names.{number_of, is_among, AreDifferent}
-use Rattle.st_input.specs.Faults.{first_fault, node_fault, node_names, edge_fault, end_fault, ids_fault, id_fault, all_named, edge_id, edge_ids, edge_names, ends_in, pair_in, order_fault, mention_fault, orders_fault, edges_in}
-use Rattle.st_input.specs.Faults.{edge_in as edge_number}
+use Rattle.st_input.specs.Faults.{first_fault, node_fault, node_names, edge_fault, unknown_end_fault, ids_fault, id_fault, all_named, edge_id, edge_ids, edge_names, ends_in, pair_in, order_fault, mention_fault, orders_fault, edges_in}
+use Rattle.st_input.specs.Faults.{edge_number}
 use Rattle.st_input.specs.Orders.{orders_from, full_orders}
-use Rattle.st_input.specs.InputGraph.{InputGraph, IsConsistent, IsShown, IsLabel}
+use Rattle.st_input.specs.InputGraph.{InputGraph, IsConsistent, IsShownByte, IsLabel}
 use Rattle.st_input.specs.Embedding.{embedded_in, embedded_graph, outer_end}
 use Rattle.st_input.specs.FirstFault.{outer_fault, text_fault, parts_fault, shape_fault}
 use Rattle.st_input.specs.Plain.{int_pair}
@@ -59,9 +59,9 @@ each_other : {A : Type 0} (k : List ℕ) (says : Entry → A) (f : ℕ → Entry
 each_other k says f other [] = refl
 each_other {A} k says f other (v ∷ l) = ap (λ (b : Bool). cond b (says (f v) ∷ each k says (map f l)) (each k says (map f l))) (other v) ∙ each_other k says f other l
 
-first_other : (k : List ℕ) (f : ℕ → Entry) → ((v : ℕ) → has_key k (f v) ≡ false) → (l : List ℕ) (ys : List Entry) → first k (map f l ++ ys) ≡ first k ys
+first_other : (k : List ℕ) (f : ℕ → Entry) → ((v : ℕ) → has_key k (f v) ≡ false) → (l : List ℕ) (ys : List Entry) → first_with k (map f l ++ ys) ≡ first_with k ys
 first_other k f other [] ys = refl
-first_other k f other (v ∷ l) ys = ap (λ (b : Bool). cond b (Some (f v)) (first k (map f l ++ ys))) (other v) ∙ first_other k f other l ys
+first_other k f other (v ∷ l) ys = ap (λ (b : Bool). cond b (Some (f v)) (first_with k (map f l ++ ys))) (other v) ∙ first_other k f other l ys
 
 append_none : {A : Type 0} (xs : List A) → xs ++ [] ≡ xs
 append_none [] = refl
@@ -150,10 +150,10 @@ node_says_it z (Some bs) names es = ap (λ (ms : List Mention). made_node z ms) 
 node_is : (g : InputGraph) (v : ℕ) → node_in (written_node g v) ≡ node_of g v
 node_is g v = ap (node_says 0) (listed_of (node_pairs g v)) ∙ node_says_it (name_of g.vertex_names v) (get_or g.labels v None) g.edge_names (get_or g.orders v [])
 
-shown_byte_same : (b : ℕ) → IsShown b → shown_byte b ≡ b
+shown_byte_same : (b : ℕ) → IsShownByte b → shown_byte b ≡ b
 shown_byte_same b p = grind (arith, nat_tests, p.0, p.1)
 
-bytes_same : (bs : List ℕ) → All IsShown bs → map shown_byte bs ≡ bs
+bytes_same : (bs : List ℕ) → All IsShownByte bs → map shown_byte bs ≡ bs
 bytes_same [] all = refl
 bytes_same (b ∷ bs) all = ap (λ (x : ℕ). x ∷ map shown_byte bs) (shown_byte_same b (all 0 0 (omega arith))) ∙ ap (λ (l : List ℕ). b ∷ l) (bytes_same bs (λ k d lt. all (suc k) d (omega arith)))
 
@@ -246,7 +246,7 @@ abbrev outer_entry : List ℤ → Option ℕ → Option Entry
 outer_entry names None = None
 outer_entry names (Some d) = Some (entry (codes "outer") 0 (list (entries_of (end_pairs names d))))
 
-outer_first : (g : InputGraph) → first (codes "outer") (written_pairs g) ≡ outer_entry g.edge_names g.outer
+outer_first : (g : InputGraph) → first_with (codes "outer") (written_pairs g) ≡ outer_entry g.edge_names g.outer
 unfolding written_pairs
 outer_first g = by g.outer
   where
@@ -256,10 +256,10 @@ outer_first g = by g.outer
     es : List Entry
     es = map (written_edge g) (all_edges g)
 
-    none_here : first (codes "outer") (ns ++ es) ≡ None
-    none_here = first_other (codes "outer") (written_node g) (λ v. refl) (all_vertices g) es ∙ sym (ap (first (codes "outer")) (append_none es)) ∙ first_other (codes "outer") (written_edge g) (λ e. refl) (all_edges g) []
+    none_here : first_with (codes "outer") (ns ++ es) ≡ None
+    none_here = first_other (codes "outer") (written_node g) (λ v. refl) (all_vertices g) es ∙ sym (ap (first_with (codes "outer")) (append_none es)) ∙ first_other (codes "outer") (written_edge g) (λ e. refl) (all_edges g) []
 
-    by : (o : Option ℕ) → first (codes "outer") (outer_pairs g.edge_names o ++ (ns ++ es)) ≡ outer_entry g.edge_names o
+    by : (o : Option ℕ) → first_with (codes "outer") (outer_pairs g.edge_names o ++ (ns ++ es)) ≡ outer_entry g.edge_names o
     by None = none_here
     by (Some d) = refl
 
@@ -269,7 +269,7 @@ outer_is names (Some d) = refl
 
 parts_are : (g : InputGraph) → IsConsistent g → parts_say (written_pairs g) ≡ parts_of g
 parts_are g I =
-    let outer : option_map outer_in (first (codes "outer") (written_pairs g)) ≡ outer_option g.edge_names g.outer = ap (option_map outer_in) (outer_first g) ∙ outer_is g.edge_names g.outer in
+    let outer : option_map outer_in (first_with (codes "outer") (written_pairs g)) ≡ outer_option g.edge_names g.outer = ap (option_map outer_in) (outer_first g) ∙ outer_is g.edge_names g.outer in
     rw (nodes_are g, labels_are g I, edges_are g, outer, no_paths g) refl
 
 -- ---- kinds
@@ -294,7 +294,7 @@ parts_right g = earliest_append part_wrong (outer_pairs g.edge_names g.outer) (m
 
 kinds_right : (g : InputGraph) → graph_wrong (written_pairs g) ≡ None
 kinds_right g =
-    let outer : inside_of outer_wrong (first (codes "outer") (written_pairs g)) ≡ None = ap (inside_of outer_wrong) (outer_first g) ∙ (outer_right g.edge_names g.outer).0 in
+    let outer : inside_of outer_wrong (first_with (codes "outer") (written_pairs g)) ≡ None = ap (inside_of outer_wrong) (outer_first g) ∙ (outer_right g.edge_names g.outer).0 in
     rw (outer, parts_right g) refl
 
 -- ---- names
@@ -358,7 +358,7 @@ no_id g before (e ∷ l) differ =
     let same : edge_ids before ++ name_of g.edge_names e ∷ map (name_of g.edge_names) l ≡ edge_ids (before ++ edge_said g e ∷ []) ++ map (name_of g.edge_names) l = sym (append_assoc (edge_ids before) (z ∷ []) zs) ∙ ap (λ (r : List ℤ). r ++ zs) (sym (ids_push before n)) in
     none_or (id_fault before n) (first_fault id_fault (before ++ n ∷ []) (map (edge_said g) l)) clear (no_id g (before ++ n ∷ []) l (subst AreDifferent same differ))
 
-end_known : (names : List ℤ) (i v : ℕ) → AreDifferent names → v < length names → end_fault names i (name_of names v) ≡ None
+end_known : (names : List ℤ) (i v : ℕ) → AreDifferent names → v < length names → unknown_end_fault names i (name_of names v) ≡ None
 end_known names i v differ lt = rw (number_known names v differ lt) refl
 
 no_end : (g : InputGraph) → IsConsistent g → HasEnds g.graph → (before : List Edge) (a k : ℕ) → a + k ≤ length g.graph.ends → first_fault (edge_fault g.vertex_names) before (map (edge_said g) (range_with_len a k)) ≡ None
@@ -370,7 +370,7 @@ no_end g I E before a (suc k) le =
     let tail = end_known names (length before) (tail_of g.graph.ends a) I.different (omega (arith, ends.0, I.vertex_names)) in
     let head = end_known names (length before) (head_of g.graph.ends a) I.different (omega (arith, ends.1, I.vertex_names)) in
     none_or (edge_fault names before n) (first_fault (edge_fault names) (before ++ n ∷ []) (map (edge_said g) (range_with_len (a + 1) k)))
-    (none_or (end_fault names (length before) (name_of names (tail_of g.graph.ends a))) (end_fault names (length before) (name_of names (head_of g.graph.ends a))) tail head) (no_end g I E (before ++ n ∷ []) (a + 1) k (omega arith))
+    (none_or (unknown_end_fault names (length before) (name_of names (tail_of g.graph.ends a))) (unknown_end_fault names (length before) (name_of names (head_of g.graph.ends a))) tail head) (no_end g I E (before ++ n ∷ []) (a + 1) k (omega arith))
 
 ids_clear : (g : InputGraph) → IsConsistent g → ids_fault (map (edge_said g) (all_edges g)) ≡ None
 ids_clear g I = rw (named g (all_edges g)) (no_id g [] (all_edges g) (subst AreDifferent (sym (names_all g.edge_names (length g.graph.ends) I.edge_names)) I.edges_different))

@@ -7,14 +7,14 @@ use Rattle.std.specs.Option.{option_map, unwrap_or}
 use Rattle.std.proofs.lemmas.List.{length-map}
 use Rattle.gml_core.specs.Trees.{int, real, str, atom, list, Entry, entry, Entries, none, more, listed}
 use Rattle.gml_core.specs.Printing.{at_zero, entry_at_zero, datum_at_zero}
-use Rattle.st_parts.specs.Used.{place_of, datum_of, first, each, int_in, str_in, list_in, int_of, str_of, list_of, first_int, first_str, first_list}
+use Rattle.st_parts.specs.Used.{place_of, datum_of, first_with, each, int_in, str_in, list_in, int_of, str_of, list_of, first_int, first_str, first_list}
 use Rattle.st_parts.specs.Kinds.{earlier, earliest, wrong, wrong_of, first_wrong, name_wrong_of, names_wrong, inside, inside_of, first_inside, node_wrong, edge_wrong, outer_wrong, part_wrong, graph_wrong}
 use Rattle.st_parts.specs.Parts.{shown_label, pairs_in, name_in, mention_in, mentions_in, names_in, label_says, node_in, label_in, edge_in, outer_in, path_in, parts_say}
 use Rattle.st_input.specs.Names.{number_of}
 use Rattle.st_input.specs.Faults.{or_else, first_fault, node_name, node_names, name_fault, node_fault, edge_fault, ids_fault, edge_names, mention_fault, order_fault, written_fault, orders_fault, edges_in, ends_in}
-use Rattle.st_input.specs.Faults.{edge_in as edge_number}
+use Rattle.st_input.specs.Faults.{edge_number}
 use Rattle.st_input.specs.Orders.{order_from, orders_from, full_orders}
-use Rattle.st_input.specs.Embedding.{end_in, outer_end, embedded_in}
+use Rattle.st_input.specs.Embedding.{written_end, outer_end, embedded_in}
 use Rattle.st_input.specs.FirstFault.{is_side, side_fault, outer_fault, limits_fault, parts_fault}
 use Rattle.st_input.specs.declared.fault.ShapeFault.TheVariants.{BadOuter, UnknownEdge}
 use Rattle.st_parts.specs.declared.parts.Mention.{Mention}
@@ -42,11 +42,11 @@ pub zero_listed : (es : Entries) → listed (at_zero es) ≡ map entry_at_zero (
 zero_listed none = refl
 zero_listed (more e es) = ap (λ (l : List Entry). entry_at_zero e ∷ l) (zero_listed es)
 
-zero_first : (k : List ℕ) (xs : List Entry) → first k (map entry_at_zero xs) ≡ option_map entry_at_zero (first k xs)
+zero_first : (k : List ℕ) (xs : List Entry) → first_with k (map entry_at_zero xs) ≡ option_map entry_at_zero (first_with k xs)
 zero_first k [] = refl
 zero_first k (entry j at d ∷ xs) = by (bytes_eq j k) (zero_first k xs)
   where
-    by : (b : Bool) → first k (map entry_at_zero xs) ≡ option_map entry_at_zero (first k xs) → cond b (Some (entry j 0 (datum_at_zero d))) (first k (map entry_at_zero xs)) ≡ option_map entry_at_zero (cond b (Some (entry j at d)) (first k xs))
+    by : (b : Bool) → first_with k (map entry_at_zero xs) ≡ option_map entry_at_zero (first_with k xs) → cond b (Some (entry j 0 (datum_at_zero d))) (first_with k (map entry_at_zero xs)) ≡ option_map entry_at_zero (cond b (Some (entry j at d)) (first_with k xs))
     by true rest = refl
     by false rest = rest
 
@@ -66,7 +66,7 @@ zero_of says same None = refl
 zero_of says same (Some e) = ap (λ x. Some x) (same e)
 
 zero_first_int : (k : List ℕ) (xs : List Entry) → first_int k (map entry_at_zero xs) ≡ first_int k xs
-zero_first_int k xs = ap int_of (zero_first k xs) ∙ by (first k xs)
+zero_first_int k xs = ap int_of (zero_first k xs) ∙ by (first_with k xs)
   where
     by : (o : Option Entry) → int_of (option_map entry_at_zero o) ≡ int_of o
     by None = refl
@@ -79,7 +79,7 @@ zero_str (entry j at (atom (str bs))) = refl
 zero_str (entry j at (list es)) = refl
 
 zero_first_str : (k : List ℕ) (xs : List Entry) → first_str k (map entry_at_zero xs) ≡ first_str k xs
-zero_first_str k xs = ap str_of (zero_first k xs) ∙ by (first k xs)
+zero_first_str k xs = ap str_of (zero_first k xs) ∙ by (first_with k xs)
   where
     by : (o : Option Entry) → str_of (option_map entry_at_zero o) ≡ str_of o
     by None = refl
@@ -92,7 +92,7 @@ zero_list (entry j at (atom (str bs))) = refl
 zero_list (entry j at (list es)) = ap (λ (l : List Entry). Some l) (zero_listed es)
 
 zero_first_list : (k : List ℕ) (xs : List Entry) → first_list k (map entry_at_zero xs) ≡ option_map (map entry_at_zero) (first_list k xs)
-zero_first_list k xs = ap list_of (zero_first k xs) ∙ by (first k xs)
+zero_first_list k xs = ap list_of (zero_first k xs) ∙ by (first_with k xs)
   where
     by : (o : Option Entry) → list_of (option_map entry_at_zero o) ≡ option_map (map entry_at_zero) (list_of o)
     by None = refl
@@ -152,7 +152,7 @@ zero_path_in e = ap names_in (zero_pairs e) ∙ same_each (codes "e") name_in ze
 zero_outer_in : (e : Entry) → outer_in (entry_at_zero e) ≡ zero_outer (outer_in e)
 zero_outer_in e =
     let xs = pairs_in e in
-    let edge : option_map mention_in (first (codes "edge") (map entry_at_zero (pairs_in e))) ≡ option_map zero_mention (option_map mention_in (first (codes "edge") (pairs_in e))) = ap (option_map mention_in) (zero_first (codes "edge") xs) ∙ by (first (codes "edge") xs) in
+    let edge : option_map mention_in (first_with (codes "edge") (map entry_at_zero (pairs_in e))) ≡ option_map zero_mention (option_map mention_in (first_with (codes "edge") (pairs_in e))) = ap (option_map mention_in) (zero_first (codes "edge") xs) ∙ by (first_with (codes "edge") xs) in
     rw (zero_place e, zero_pairs e, edge, zero_first_int (codes "side") xs) refl
   where
     by : (o : Option Entry) → option_map mention_in (option_map entry_at_zero o) ≡ option_map zero_mention (option_map mention_in o)
@@ -162,7 +162,7 @@ zero_outer_in e =
 -- what the pairs say with their places set to 0
 pub zero_parts_say : (xs : List Entry) → parts_say (map entry_at_zero xs) ≡ zero_parts (parts_say xs)
 zero_parts_say xs =
-    let outer : option_map outer_in (first (codes "outer") (map entry_at_zero xs)) ≡ option_map zero_outer (option_map outer_in (first (codes "outer") xs)) = ap (option_map outer_in) (zero_first (codes "outer") xs) ∙ by (first (codes "outer") xs) in
+    let outer : option_map outer_in (first_with (codes "outer") (map entry_at_zero xs)) ≡ option_map zero_outer (option_map outer_in (first_with (codes "outer") xs)) = ap (option_map outer_in) (zero_first (codes "outer") xs) ∙ by (first_with (codes "outer") xs) in
     rw (zero_each (codes "node") node_in zero_node zero_node_in xs, same_each (codes "node") label_in zero_label_in xs, same_each (codes "edge") edge_in zero_edge_in xs, outer, same_each (codes "path") path_in zero_path_in xs) refl
   where
     by : (o : Option Entry) → option_map outer_in (option_map entry_at_zero o) ≡ option_map zero_outer (option_map outer_in o)
@@ -186,7 +186,7 @@ clear_wrong e h = by (is_some (int_in (datum_of e))) (place_of (entry_at_zero e)
     by false at h = absurd (cc)
 
 clear_first_wrong : (k : List ℕ) (xs : List Entry) → first_wrong k (map entry_at_zero xs) ≡ None → first_wrong k xs ≡ None
-clear_first_wrong k xs h = by (first k xs) (subst (λ (o : Option Entry). wrong_of o ≡ None) (zero_first k xs) h)
+clear_first_wrong k xs h = by (first_with k xs) (subst (λ (o : Option Entry). wrong_of o ≡ None) (zero_first k xs) h)
   where
     by : (o : Option Entry) → wrong_of (option_map entry_at_zero o) ≡ None → wrong_of o ≡ None
     by None h = refl
@@ -213,7 +213,7 @@ clear_inside within clear (entry j at (atom (str bs))) h = absurd (cc)
 clear_inside within clear (entry j at (list es)) h = clear (listed es) (subst (λ (l : List Entry). within l ≡ None) (zero_listed es) h)
 
 clear_first_inside : (within : List Entry → Option ℕ) → ((xs : List Entry) → within (map entry_at_zero xs) ≡ None → within xs ≡ None) → (k : List ℕ) (xs : List Entry) → first_inside within k (map entry_at_zero xs) ≡ None → first_inside within k xs ≡ None
-clear_first_inside within clear k xs h = by (first k xs) (subst (λ (o : Option Entry). inside_of within o ≡ None) (zero_first k xs) h)
+clear_first_inside within clear k xs h = by (first_with k xs) (subst (λ (o : Option Entry). inside_of within o ≡ None) (zero_first k xs) h)
   where
     by : (o : Option Entry) → inside_of within (option_map entry_at_zero o) ≡ None → inside_of within o ≡ None
     by None h = refl
@@ -338,7 +338,7 @@ zero_end : (names : List ℤ) (o : Option Outer) → outer_end names (option_map
 zero_end names None = refl
 zero_end names (Some o) = by o.edge o.side
   where
-    by : (m : Option Mention) (s : Option ℤ) → end_in names (option_map zero_mention m) s ≡ end_in names m s
+    by : (m : Option Mention) (s : Option ℤ) → written_end names (option_map zero_mention m) s ≡ written_end names m s
     by None s = refl
     by (Some m) None = refl
     by (Some m) (Some s) = refl

@@ -4,9 +4,9 @@
 --   embedded_graph text    the graph of a text, where it has a pair `graph`
 use Rattle.std.specs.Prelude.{◌+◌, ◌*◌, ℕ, ℤ, nat_abs, List, length, Option, None, Some, option_map, codes}
 use Rattle.gml_core.specs.Trees.{Entry, Entries, listed}
-use Rattle.st_parts.specs.Used.{first}
+use Rattle.st_parts.specs.Used.{first_with}
 use Rattle.st_parts.specs.Parts.{parts_in}
-use Rattle.st_input.specs.Faults.{node_names, edge_names, ends_in, edge_in}
+use Rattle.st_input.specs.Faults.{node_names, edge_names, ends_in, edge_number}
 use Rattle.st_input.specs.Orders.{full_orders}
 use Rattle.st_input.specs.InputGraph.{InputGraph}
 use Rattle.st_parts.specs.declared.parts.Mention.{Mention}
@@ -14,13 +14,13 @@ use Rattle.st_parts.specs.declared.parts.Outer.{Outer}
 use Rattle.st_parts.specs.declared.parts.Parts.{Parts}
 
 -- the end of an edge whose face is the outer one: on its left for the side 0, on its right for the side 1
-abbrev pub end_in : List ℤ → Option Mention → Option ℤ → Option ℕ
-end_in names (Some m) (Some s) = Some (2 * edge_in names m + nat_abs s)
-end_in names m s = None
+abbrev pub written_end : List ℤ → Option Mention → Option ℤ → Option ℕ
+written_end names (Some m) (Some s) = Some (2 * edge_number names m + nat_abs s)
+written_end names m s = None
 
 abbrev pub outer_end : List ℤ → Option Outer → Option ℕ
 outer_end names None = None
-outer_end names (Some o) = end_in names o.edge o.side
+outer_end names (Some o) = written_end names o.edge o.side
 
 -- the graph of what a pair `graph` says
 abbrev pub embedded_in : Parts → InputGraph
@@ -36,4 +36,4 @@ embedded_in p = record {
 
 -- the graph of a text, where it has a pair `graph`
 unfoldable pub embedded_graph : Entries → Option InputGraph
-embedded_graph text = option_map (λ (g : Entry). embedded_in (parts_in g)) (first (codes "graph") (listed text))
+embedded_graph text = option_map (λ (g : Entry). embedded_in (parts_in g)) (first_with (codes "graph") (listed text))

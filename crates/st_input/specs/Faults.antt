@@ -46,12 +46,12 @@ node_fault before n = name_fault (node_names before) n.at n.id
 
 -- ---- the ends of edges
 -- the source or the target of edge i names no vertex
-abbrev pub end_fault : List ℤ → ℕ → ℤ → Option ShapeFault
-end_fault vertices i name = if is_some (number_of vertices name) then None else Some (UnknownEnd i name)
+abbrev pub unknown_end_fault : List ℤ → ℕ → ℤ → Option ShapeFault
+unknown_end_fault vertices i name = if is_some (number_of vertices name) then None else Some (UnknownEnd i name)
 
 -- an end is missing, or else the source names no vertex, or else the target
 abbrev pub ends_fault : List ℤ → ℕ → Option ℤ → Option ℤ → Option ShapeFault
-ends_fault vertices i (Some s) (Some t) = or_else (end_fault vertices i s) (end_fault vertices i t)
+ends_fault vertices i (Some s) (Some t) = or_else (unknown_end_fault vertices i s) (unknown_end_fault vertices i t)
 ends_fault vertices i s t = Some (NoEnd i)
 
 abbrev pub edge_fault : List ℤ → List Edge → Edge → Option ShapeFault
@@ -112,11 +112,11 @@ orders_fault names [] = None
 orders_fault names (n ∷ ns) = or_else (written_fault names n.order) (orders_fault names ns)
 
 -- the edge that is named
-abbrev pub edge_in : List ℤ → Mention → ℕ
-edge_in names m = unwrap_or (number_of names m.name) 0
+abbrev pub edge_number : List ℤ → Mention → ℕ
+edge_number names m = unwrap_or (number_of names m.name) 0
 
 abbrev pub edges_in : List ℤ → List Mention → List ℕ
-edges_in names ms = map (edge_in names) ms
+edges_in names ms = map (edge_number names) ms
 
 abbrev pub written : List ℤ → Option (List Mention) → List ℕ
 written names None = []

@@ -6,7 +6,7 @@
 --   shape_fault text ..       the first fault of a text
 use Rattle.std.specs.Prelude.{ℕ, ℤ, pos, Bool, ◌&&◌, List, [], length, Option, None, Some, if◌then◌else◌, int_le, nat_lt, codes, option_map}
 use Rattle.gml_core.specs.Trees.{Entry, Entries, listed}
-use Rattle.st_parts.specs.Used.{first}
+use Rattle.st_parts.specs.Used.{first_with}
 use Rattle.st_parts.specs.Kinds.{bad_kind}
 use Rattle.st_parts.specs.Parts.{parts_in, second}
 use Rattle.st_input.specs.Faults.{or_else, first_fault, node_fault, node_names, edge_fault, ids_fault, edge_names, orders_fault, mention_fault}
@@ -53,4 +53,4 @@ graph_fault text (Some g) max_n max_m = or_else (text_fault text) (parts_fault (
 
 -- the first fault of a text; the limits are the greatest numbers of vertices and edges that are allowed
 unfoldable pub shape_fault : Entries → ℕ → ℕ → Option ShapeFault
-shape_fault text max_n max_m = graph_fault (listed text) (first (codes "graph") (listed text)) max_n max_m
+shape_fault text max_n max_m = graph_fault (listed text) (first_with (codes "graph") (listed text)) max_n max_m

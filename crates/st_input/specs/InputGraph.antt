@@ -1,8 +1,8 @@
 -- A graph as a file gives it: a digraph with its names, labels, orders, outer end and paths.
---   InputGraph         the value of a `GraphSpec`
---   IsConsistent g     its tables fit together
---   AreListed g orders   every listed edge is there
---   AreLabels labels     every label has 1 to 80 bytes that can be shown
+--   InputGraph             the value of a `GraphSpec`
+--   IsConsistent g         its tables fit together
+--   AreListed g orders     every listed edge is there
+--   AreShownLabels labels  every label has 1 to 80 bytes that can be shown
 -- Vertices and edges are numbered in file order, from 0. Edge e has the end 2e, whose face lies on its left, and the end
 -- 2e + 1, whose face lies on its right.
 use Rattle.std.specs.Prelude.{◌≡◌, ◌<◌, ◌≤◌, ◌*◌, ◌^◌, ℕ, ℤ, List, [], length, Option, Some, slice_get, slice_index_or, All, IfSome}
@@ -25,16 +25,16 @@ pub record InputGraph : Type 0 where
   pub paths : List (List ℤ)
 
 -- a byte that can be shown
-abbrev pub IsShown : ℕ → Type 0
-IsShown b = (32 ≤ b) × (b ≤ 126)
+abbrev pub IsShownByte : ℕ → Type 0
+IsShownByte b = (32 ≤ b) × (b ≤ 126)
 
 -- 1 to 80 bytes that can be shown
 abbrev pub IsLabel : List ℕ → Type 0
-IsLabel bs = (1 ≤ length bs) × (length bs ≤ 80) × All IsShown bs
+IsLabel bs = (1 ≤ length bs) × (length bs ≤ 80) × All IsShownByte bs
 
 -- every label has 1 to 80 bytes that can be shown
-abbrev pub AreLabels : List (Option (List ℕ)) → Type 0
-AreLabels labels = (v : ℕ) (bs : List ℕ) → slice_get labels v ≡ Some (Some bs) → IsLabel bs
+abbrev pub AreShownLabels : List (Option (List ℕ)) → Type 0
+AreShownLabels labels = (v : ℕ) (bs : List ℕ) → slice_get labels v ≡ Some (Some bs) → IsLabel bs
 
 -- every listed edge is there
 abbrev pub AreListed : Graph → List (List ℕ) → Type 0
@@ -50,6 +50,6 @@ pub record IsConsistent (g : InputGraph) : Type 0 where
   pub orders : length g.orders ≡ g.graph.vertices
   pub different : AreDifferent g.vertex_names
   pub edges_different : AreDifferent g.edge_names
-  pub shown : AreLabels g.labels
+  pub shown : AreShownLabels g.labels
   pub listed : AreListed g.graph g.orders
   pub outer : IfSome g.outer (λ d. d < 2 * length g.graph.ends)

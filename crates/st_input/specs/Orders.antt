@@ -1,9 +1,9 @@
 -- The edges at each vertex, clockwise.
---   outs v e ends            the edges out of v in file order
---   ins v e ends             the edges into v in the reverse of file order
---   default_order ends v     the edges out and then the edges in
---   full_orders names ends ns   the list of each vertex: the one that its node writes, else the default
---   Filled free old new more    each list of new is that of old, with more behind it where the vertex is free
+--   file_outs v e ends         the edges out of v in file order
+--   file_ins v e ends          the edges into v in the reverse of file order
+--   default_order ends v       the edges out and then the edges in
+--   full_orders names ends ns  the list of each vertex: the one that its node writes, else the default
+--   Filled free old new more   each list of new is that of old, with more behind it where the vertex is free
 -- Letters: v vertex, e edge. In outs and ins, e is the number of the first edge of the list of ends.
 -- With all edges going up, a clockwise list has the edges out from left to right and then the edges in from right to
 -- left: so by default both go from left to right in file order.
@@ -13,17 +13,17 @@ use Rattle.st_parts.specs.declared.parts.Mention.{Mention}
 use Rattle.st_input.specs.Faults.{edges_in}
 
 -- the edges out of v in file order
-unfoldable pub outs : ℕ → ℕ → List (ℕ × ℕ) → List ℕ
-outs v e [] = []
-outs v e (a ∷ ends) = (if a.0 == v then e ∷ [] else []) ++ outs v (e + 1) ends
+unfoldable pub file_outs : ℕ → ℕ → List (ℕ × ℕ) → List ℕ
+file_outs v e [] = []
+file_outs v e (a ∷ ends) = (if a.0 == v then e ∷ [] else []) ++ file_outs v (e + 1) ends
 
 -- the edges into v in the reverse of file order
-unfoldable pub ins : ℕ → ℕ → List (ℕ × ℕ) → List ℕ
-ins v e [] = []
-ins v e (a ∷ ends) = ins v (e + 1) ends ++ (if a.1 == v then e ∷ [] else [])
+unfoldable pub file_ins : ℕ → ℕ → List (ℕ × ℕ) → List ℕ
+file_ins v e [] = []
+file_ins v e (a ∷ ends) = file_ins v (e + 1) ends ++ (if a.1 == v then e ∷ [] else [])
 
 abbrev pub default_order : List (ℕ × ℕ) → ℕ → List ℕ
-default_order ends v = outs v 0 ends ++ ins v 0 ends
+default_order ends v = file_outs v 0 ends ++ file_ins v 0 ends
 
 -- the order of vertex v: the one that its node writes, else the default
 abbrev pub order_from : List ℤ → List (ℕ × ℕ) → ℕ → Option (List Mention) → List ℕ
@@ -40,8 +40,8 @@ unfoldable pub full_orders : List ℤ → List (ℕ × ℕ) → List Node → Li
 full_orders names ends ns = orders_from names ends 0 ns
 
 -- both ends of an edge are among n vertices
-abbrev pub IsWithin : ℕ → ℕ × ℕ → Type 0
-IsWithin n a = (a.0 < n) × (a.1 < n)
+abbrev pub HasEndsBelow : ℕ → ℕ × ℕ → Type 0
+HasEndsBelow n a = (a.0 < n) × (a.1 < n)
 
 -- ---- how the lists are filled
 -- no order is written
@@ -61,10 +61,10 @@ abbrev pub one : ℕ → ℕ → ℕ → List ℕ
 one t e v = if t == v then e ∷ [] else []
 
 abbrev pub outs_from : ℕ → List (ℕ × ℕ) → ℕ → List ℕ
-outs_from e ends v = outs v e ends
+outs_from e ends v = file_outs v e ends
 
 abbrev pub ins_from : ℕ → List (ℕ × ℕ) → ℕ → List ℕ
-ins_from e ends v = ins v e ends
+ins_from e ends v = file_ins v e ends
 
 -- each list of new is that of old, with more behind it where the vertex is free
 pub record Filled (free : List Bool) (old new : List (List ℕ)) (more : ℕ → List ℕ) : Type 0 where

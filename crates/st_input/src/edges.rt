@@ -1,6 +1,6 @@
 //! Edges by their names, and the written orders.
 ghost use Rattle.st_input.specs.EdgeNames.{known_names};
-ghost use Rattle.st_input.specs.Faults.{FailsBy, all_named, edge_id, edge_ids, edge_in, edge_names, edges_in, first_fault, id_fault, ids_fault, mention_fault, order_fault, orders_fault, same_fault, written_fault, written_in};
+ghost use Rattle.st_input.specs.Faults.{FailsBy, all_named, edge_id, edge_ids, edge_number, edge_names, edges_in, first_fault, id_fault, ids_fault, mention_fault, order_fault, orders_fault, same_fault, written_fault, written_in};
 ghost use Rattle.st_input.specs.Names.{by_position, number_of};
 ghost use Rattle.std.specs.Prelude.{◌≡◌, [], ◌∷◌, ◌++◌, ◌<◌, ◌^◌, length, map, None, IfOk, IfSome, OnOk};
 
@@ -126,7 +126,7 @@ pub(crate) fn edge_of(names: &EdgeNames, name: i64) -> Option<u32>
 /// The edge that is named at a place.
 pub(crate) fn mentioned(names: &EdgeNames, mention: Mention) -> Result<u32, ShapeFault>
     requires { length (known_names names.now) < 2 ^ 32 }
-    ensures edge { IfOk result (λ e. e ≡ edge_in (known_names names.now) mention) }
+    ensures edge { IfOk result (λ e. e ≡ edge_number (known_names names.now) mention) }
     ensures within { IfOk result (λ e. e < length (known_names names.now)) }
     ensures none { OnOk result (mention_fault (known_names names.now) mention ≡ None) }
     ensures fault { FailsBy (mention_fault (known_names names.now) mention) result }

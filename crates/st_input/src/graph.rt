@@ -5,14 +5,14 @@ ghost use Rattle.gml_core.specs.Views.{entry_view, view};
 ghost use Rattle.st_input.specs.EdgeNames.{known_names};
 ghost use Rattle.st_input.specs.Embedding.{embedded_graph, embedded_in};
 ghost use Rattle.st_input.specs.Faults.{FailsBy};
-ghost use Rattle.st_input.specs.Found.{IsFound, tabled};
+ghost use Rattle.st_input.specs.Found.{IsFoundInParts, tabled};
 ghost use Rattle.st_input.specs.FirstFault.{parts_fault, shape_fault, text_fault};
-ghost use Rattle.st_input.specs.InputGraph.{AreLabels, AreListed, IsConsistent};
+ghost use Rattle.st_input.specs.InputGraph.{AreShownLabels, AreListed, IsConsistent};
 ghost use Rattle.st_input.specs.Names.{AreDifferent};
 ghost use Rattle.st_parts.specs.Parts.{parts_in};
 ghost use Rattle.st_input.specs.Paths.{ArePathsThere, PathsFailBy, path_name_fault, paths_by};
 ghost use Rattle.st_input.specs.Written.{IsWritable, with_ends};
-ghost use Rattle.st_parts.specs.Used.{HasSoundList, datum_of, first};
+ghost use Rattle.st_parts.specs.Used.{HasSoundList, datum_of, first_with};
 ghost use Rattle.std.specs.Prelude.{◌≡◌, ◌≢◌, ◌<◌, ◌≤◌, ◌*◌, ◌^◌, ℕ, codes, length, option_map, slice_get, None, Some, IfOk, IfSome, MatchOption, OnOk};
 
 use crate::edges::{EdgeNames, edges_by_name, orders_of};
@@ -80,7 +80,7 @@ impl GraphSpec {
         ensures labels { length self.now.labels ≡ self.now.graph.vertices }
         ensures different { AreDifferent self.now.vertex_names }
         ensures edges_different { AreDifferent self.now.edge_names }
-        ensures shown { AreLabels self.now.labels }
+        ensures shown { AreShownLabels self.now.labels }
     {
         &self.names
     }
@@ -179,7 +179,7 @@ fn look_up(
 ) -> Result<Found, ShapeFault>
     requires nodes { length parts.now.nodes < 2 ^ 31 }
     requires edges { length parts.now.edges < 2 ^ 31 }
-    ensures found { IfOk result (IsFound parts.now) }
+    ensures found { IfOk result (IsFoundInParts parts.now) }
     ensures vertices { OnOk result (length parts.now.nodes ≤ max_vertices) }
     ensures edges { OnOk result (length parts.now.edges ≤ max_edges) }
     ensures none { OnOk result (parts_fault parts.now max_vertices max_edges ≡ None) }
@@ -234,7 +234,7 @@ pub(crate) fn assemble(
 }
 
 fn build(alloc: Global, parts: Parts, found: Found) -> Result<GraphSpec, NoMemory>
-    requires found { IsFound parts found }
+    requires found { IsFoundInParts parts found }
     requires consistent { IsConsistent (embedded_in parts) }
     requires vertices { length parts.nodes < 2 ^ 30 }
     requires edges { length parts.edges < 2 ^ 30 }
@@ -269,7 +269,7 @@ fn build(alloc: Global, parts: Parts, found: Found) -> Result<GraphSpec, NoMemor
 fn scanned(alloc: Global, tree: &Tree, graph: &Pair) -> Result<Parts, ShapeFault>
     requires tree { IsSound (view tree.now) }
     requires sound { HasSoundList (datum_of (entry_view graph.now)) }
-    requires first { first (codes "graph") (listed (view tree.now)) ≡ Some (entry_view graph.now) }
+    requires first { first_with (codes "graph") (listed (view tree.now)) ≡ Some (entry_view graph.now) }
     ensures parts { IfOk result (λ p. p ≡ parts_in (entry_view graph.now)) }
     ensures nodes { IfOk result (λ p. length p.nodes < 2 ^ 31) }
     ensures edges { IfOk result (λ p. length p.edges < 2 ^ 31) }
@@ -294,7 +294,7 @@ fn spec_of(
     max_edges: u32,
 ) -> Result<GraphSpec, ShapeFault>
     requires labels { length parts.labels ≡ length parts.nodes }
-    requires shown { AreLabels parts.labels }
+    requires shown { AreShownLabels parts.labels }
     requires nodes { length parts.nodes < 2 ^ 31 }
     requires edges { length parts.edges < 2 ^ 31 }
     requires paths { length parts.paths < 2 ^ 31 }

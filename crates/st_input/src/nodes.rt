@@ -1,7 +1,7 @@
 //! Vertices by their names, and the ends of edges.
-ghost use Rattle.st_input.specs.Faults.{FailsBy, edge_fault, end_fault, ends_fault, ends_in, first_fault, name_fault, node_fault, node_name, node_names, pair_in};
+ghost use Rattle.st_input.specs.Faults.{FailsBy, edge_fault, unknown_end_fault, ends_fault, ends_in, first_fault, name_fault, node_fault, node_name, node_names, pair_in};
 ghost use Rattle.st_input.specs.Names.{number_of};
-ghost use Rattle.st_input.specs.Orders.{IsWithin};
+ghost use Rattle.st_input.specs.Orders.{HasEndsBelow};
 ghost use Rattle.std.specs.Prelude.{◌≡◌, [], ◌∷◌, ◌++◌, ◌<◌, ◌^◌, length, All, None, Some, IfOk, OnOk};
 
 use crate::fault::ShapeFault;
@@ -55,8 +55,8 @@ fn end_of(vertices: &NameSet, edge: u32, name: i64) -> Result<u32, ShapeFault>
     requires { length vertices.now < 2 ^ 32 }
     ensures number { IfOk result (λ v. number_of vertices.now name ≡ Some v) }
     ensures within { IfOk result (λ v. v < length vertices.now) }
-    ensures none { OnOk result (end_fault vertices.now edge name ≡ None) }
-    ensures fault { FailsBy (end_fault vertices.now edge name) result }
+    ensures none { OnOk result (unknown_end_fault vertices.now edge name ≡ None) }
+    ensures fault { FailsBy (unknown_end_fault vertices.now edge name) result }
 {
     match vertices.find(name) {
         Some(n) => Ok(n),
@@ -67,7 +67,7 @@ fn end_of(vertices: &NameSet, edge: u32, name: i64) -> Result<u32, ShapeFault>
 fn pair_of(vertices: &NameSet, i: u32, edge: Edge) -> Result<(u32, u32), ShapeFault>
     requires { length vertices.now < 2 ^ 32 }
     ensures ends { IfOk result (λ a. a ≡ pair_in vertices.now edge) }
-    ensures within { IfOk result (IsWithin (length vertices.now)) }
+    ensures within { IfOk result (HasEndsBelow (length vertices.now)) }
     ensures none { OnOk result (ends_fault vertices.now i edge.source edge.target ≡ None) }
     ensures fault { FailsBy (ends_fault vertices.now i edge.source edge.target) result }
 {
@@ -91,7 +91,7 @@ pub(crate) fn ends_of(
     requires edges { length edges.now < 2 ^ 32 }
     ensures ends { IfOk result (λ a. a ≡ ends_in vertices.now edges.now) }
     ensures size { IfOk result (λ a. length a ≡ length edges.now) }
-    ensures within { IfOk result (All (IsWithin (length vertices.now))) }
+    ensures within { IfOk result (All (HasEndsBelow (length vertices.now))) }
     ensures none { OnOk result (first_fault (edge_fault vertices.now) [] edges.now ≡ None) }
     ensures fault { FailsBy (first_fault (edge_fault vertices.now) [] edges.now) result }
 {

@@ -2,7 +2,7 @@
 //!
 //! One pass forward over the edges puts each behind the list of its tail, and one pass backward behind the list of
 //! its head. Cost: O(V + E) on average.
-ghost use Rattle.st_input.specs.Orders.{AreAt, Filled, IsWithin, default_order, extended, ins_from, is_free, one, outs_from};
+ghost use Rattle.st_input.specs.Orders.{AreAt, Filled, HasEndsBelow, default_order, extended, ins_from, is_free, one, outs_from};
 ghost use Rattle.std.specs.Prelude.{◌≡◌, ℕ, [], ◌∷◌, ◌++◌, ◌<◌, ◌^◌, length, map, slice_index_or, slice_set, All, IfOk, OnOk};
 
 use st_ids::{EdgeId, EdgeList, IdVec, NoMemory, VertexId};
@@ -62,7 +62,7 @@ fn fill_outs(
     ends: &[(u32, u32)],
 ) -> Result<(), NoMemory>
     requires size { length orders.old ≡ length free.now }
-    requires within { All (IsWithin (length free.now)) ends.now }
+    requires within { All (HasEndsBelow (length free.now)) ends.now }
     requires small { length ends.now < 2 ^ 32 }
     ensures filled { OnOk result (Filled free.now orders.old orders.new (outs_from 0 ends.now)) }
 {
@@ -79,7 +79,7 @@ fn fill_ins(
     ends: &[(u32, u32)],
 ) -> Result<(), NoMemory>
     requires size { length orders.old ≡ length free.now }
-    requires within { All (IsWithin (length free.now)) ends.now }
+    requires within { All (HasEndsBelow (length free.now)) ends.now }
     requires small { length ends.now < 2 ^ 32 }
     ensures filled { OnOk result (Filled free.now orders.old orders.new (ins_from 0 ends.now)) }
 {
@@ -99,7 +99,7 @@ pub(crate) fn fill_free(
     ends: &[(u32, u32)],
 ) -> Result<(), NoMemory>
     requires size { length orders.old ≡ length free.now }
-    requires within { All (IsWithin (length free.now)) ends.now }
+    requires within { All (HasEndsBelow (length free.now)) ends.now }
     requires small { length ends.now < 2 ^ 32 }
     ensures filled { OnOk result (Filled free.now orders.old orders.new (default_order ends.now)) }
 {
@@ -115,7 +115,7 @@ pub(crate) fn whole_orders(
     ends: &[(u32, u32)],
 ) -> Result<IdVec<VertexId, EdgeList>, NoMemory>
     requires size { length orders ≡ length nodes.now }
-    requires within { All (IsWithin (length nodes.now)) ends.now }
+    requires within { All (HasEndsBelow (length nodes.now)) ends.now }
     requires nodes { length nodes.now < 2 ^ 31 }
     requires ends { length ends.now < 2 ^ 32 }
     ensures size { IfOk result (λ os. length os ≡ length nodes.now) }

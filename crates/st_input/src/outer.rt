@@ -1,6 +1,6 @@
 //! The outer face, where it is named, and the limits.
 ghost use Rattle.st_input.specs.EdgeNames.{known_names};
-ghost use Rattle.st_input.specs.Embedding.{end_in, outer_end};
+ghost use Rattle.st_input.specs.Embedding.{written_end, outer_end};
 ghost use Rattle.st_input.specs.Faults.{FailsBy};
 ghost use Rattle.st_input.specs.FirstFault.{limits_fault, outer_fault, side_fault};
 ghost use Rattle.std.specs.Prelude.{◌≡◌, ◌<◌, ◌≤◌, ◌*◌, ◌^◌, length, option_map, None, IfOk, OnOk};
@@ -17,7 +17,7 @@ fn side_of(
     side: Option<i64>,
 ) -> Result<Option<Dart>, ShapeFault>
     requires { length (known_names names.now) < 2 ^ 31 }
-    ensures value { IfOk result (λ d. option_map (λ e. e.0) d ≡ end_in (known_names names.now) edge side) }
+    ensures value { IfOk result (λ d. option_map (λ e. e.0) d ≡ written_end (known_names names.now) edge side) }
     ensures none { OnOk result (side_fault (known_names names.now) at edge side ≡ None) }
     ensures fault { FailsBy (side_fault (known_names names.now) at edge side) result }
 {

@@ -1,7 +1,7 @@
 //! The tables of a graph: its ends, and the names of its vertices and edges.
 ghost use Rattle.st_input.specs.Faults.{edge_ids, edge_names, node_name};
 ghost use Rattle.st_input.specs.Names.{positions};
-ghost use Rattle.st_input.specs.Orders.{IsWithin};
+ghost use Rattle.st_input.specs.Orders.{HasEndsBelow};
 ghost use Rattle.std.specs.Prelude.{◌≡◌, ◌<◌, ◌^◌, length, map, All, IfOk};
 
 use crate::edges::{all_have_ids, id_of};
@@ -13,7 +13,7 @@ use std::alloc::Global;
 fn graph_with(alloc: Global, n: u32, ends: &[(u32, u32)]) -> Result<Digraph, NoMemory>
     requires vertices { n < 2 ^ 30 }
     requires edges { length ends.now < 2 ^ 30 }
-    requires within { All (IsWithin n) ends.now }
+    requires within { All (HasEndsBelow n) ends.now }
     ensures { IfOk result (λ g. g ≡ record { vertices = n; ends = ends.now }) }
 {
     let mut graph = Digraph::new(alloc);
@@ -29,7 +29,7 @@ fn graph_with(alloc: Global, n: u32, ends: &[(u32, u32)]) -> Result<Digraph, NoM
 pub(crate) fn graph_of(alloc: Global, n: u32, ends: Items<(u32, u32)>) -> Result<Digraph, NoMemory>
     requires vertices { n < 2 ^ 30 }
     requires edges { length ends < 2 ^ 30 }
-    requires within { All (IsWithin n) ends }
+    requires within { All (HasEndsBelow n) ends }
     ensures { IfOk result (λ g. g ≡ record { vertices = n; ends = ends }) }
 {
     graph_with(alloc, n, ends.as_slice())

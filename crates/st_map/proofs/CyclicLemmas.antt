@@ -2,7 +2,7 @@
 use Rattle.std.proofs.Common.{◌≡◌, ◌≢◌, ℕ, zero, suc, ◌<◌, eqb, List, [], ◌∷◌, map, length, get_or, inl, inr, refl, sym, ap, ◌∙◌, subst, arith}
 use Rattle.std.proofs.lemmas.Bool.{cases_eq, eq-eqb, ne_eqb, cond-true, cond-false}
 use Rattle.st_ids.specs.Lists.{In, here, there, NoRepeat}
-use Rattle.st_ids.proofs.ListLemmas.{not_in_nil, In-cases, in_subst}
+use Rattle.st_ids.proofs.Public.{not_in_nil, In-cases, in_subst}
 use Rattle.st_map.specs.Embedded.{Embedded, HasOrders, darts, order, at, after, next}
 
 -- ---- places and membership

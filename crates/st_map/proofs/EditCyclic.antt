@@ -3,7 +3,7 @@ use Rattle.std.proofs.Common.{◌≡◌, ◌≢◌, ℕ, eqb, List, [], ◌∷�
 use Rattle.std.proofs.lemmas.Bool.{cases_eq, eq-eqb, ne_eqb, cond-true, cond-false}
 use Rattle.st_ids.specs.Ends.{edge_of}
 use Rattle.st_ids.specs.Lists.{In, here, there, NoRepeat}
-use Rattle.st_ids.proofs.ListLemmas.{not_in_nil, In-cases, in_subst}
+use Rattle.st_ids.proofs.Public.{not_in_nil, In-cases, in_subst}
 use Rattle.st_map.specs.Embedded.{after}
 use Rattle.st_map.specs.Insert.{put_after}
 use Rattle.st_map.specs.Remove.{without_edge}

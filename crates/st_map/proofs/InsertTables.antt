@@ -5,7 +5,7 @@ use Rattle.std.proofs.lemmas.List.FromFn.{length-map-range_with_len, fill_by_all
 use Rattle.std.proofs.lemmas.Bool.{cases_eq, cases_lt}
 use Rattle.st_ids.specs.Graph.{tail_of, head_of}
 use Rattle.st_ids.specs.Lists.{In, here, there, NoRepeat}
-use Rattle.st_ids.proofs.ListLemmas.{not_in_nil, In-cases, in_subst}
+use Rattle.st_ids.proofs.Public.{not_in_nil, In-cases, in_subst}
 use Rattle.st_map.specs.Embedded.{Embedded, IsRotation, at, darts, order, next}
 use Rattle.st_map.specs.Insert.{put_after, insert, InsertsEdge}
 use Rattle.st_map.specs.Links.{HasRoom, LinkTables, SameRooms}

@@ -1,23 +1,24 @@
-pub mod SumLemmas
-pub mod OrbitLemmas
-pub mod EndLemmas
-pub mod RotationLemmas
-pub mod FaceLemmas
-pub mod OrderLemmas
-pub mod TableLemmas
-pub mod LinkLemmas
-pub mod MapTables
-pub mod MapLemmas
-pub mod CyclicLemmas
-pub mod SplitLemmas
-pub mod EditCyclic
-pub mod ExchangeLemmas
-pub mod InsertLemmas
-pub mod RemoveLemmas
-pub mod LinkLoops
-pub mod LinkSplit
-pub mod SplitTables
-pub mod InsertTables
-pub mod LinkInsert
-pub mod RemoveTables
-pub mod LinkRemove
+mod SumLemmas
+mod OrbitLemmas
+mod EndLemmas
+mod RotationLemmas
+mod FaceLemmas
+mod OrderLemmas
+mod TableLemmas
+mod LinkLemmas
+mod MapTables
+mod MapLemmas
+mod CyclicLemmas
+mod SplitLemmas
+mod EditCyclic
+mod ExchangeLemmas
+mod InsertLemmas
+mod RemoveLemmas
+mod LinkLoops
+mod LinkSplit
+mod SplitTables
+mod InsertTables
+mod LinkInsert
+mod RemoveTables
+mod LinkRemove
+pub mod Public

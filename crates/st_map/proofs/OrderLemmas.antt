@@ -6,7 +6,7 @@ use Rattle.std.proofs.lemmas.List.{get_or-set_same, get_or-set_other, length-set
 use Rattle.std.proofs.lemmas.Bool.{cases_eq, cases_lt, cases_Bool, eq-eqb, ne_eqb, eqb-true, or_cases, or_left, or_right, and_from, and_left, and_right, not_from_true, not_from_false}
 use Rattle.st_ids.specs.Graph.{tail_of, head_of}
 use Rattle.st_ids.specs.Lists.{In, here, there, NoRepeat}
-use Rattle.st_ids.proofs.ListLemmas.{not_in_nil, in_dec}
+use Rattle.st_ids.proofs.Public.{not_in_nil, in_dec}
 use Rattle.st_map.specs.Counting.{bit, count_below}
 use Rattle.st_map.specs.Orders.{IsOrderAt}
 use Rattle.st_map.specs.Tables.{is_at, leaves, enters, AreEdges, IsLawful, IsLawfulUpTo, AreDegrees}

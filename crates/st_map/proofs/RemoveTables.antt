@@ -6,7 +6,7 @@ use Rattle.std.proofs.lemmas.List.FromFn.{length-map-range_with_len, fill_by_all
 use Rattle.st_ids.specs.Ends.{edge_of}
 use Rattle.st_ids.specs.Graph.{tail_of, head_of}
 use Rattle.st_ids.specs.Lists.{In, here, there, NoRepeat}
-use Rattle.st_ids.proofs.ListLemmas.{not_in_nil, In-cases}
+use Rattle.st_ids.proofs.Public.{not_in_nil, In-cases}
 use Rattle.st_map.specs.Embedded.{Embedded, HasOrders, IsRotation, at, darts, edges, head, next, order, tail}
 use Rattle.st_map.specs.Links.{HasRoom, LinkTables, SameRooms}
 use Rattle.st_map.specs.Remove.{RemovesEdge, exchanged, old_edge, passed, removed, without_edge}

@@ -6,7 +6,7 @@ use Rattle.std.proofs.lemmas.List.FromFn.{get_or-map-range_with_len, length-rang
 use Rattle.std.proofs.lemmas.Bool.{cases_eq, cases_lt, eq-eqb, ne_eqb, cond-true, cond-false}
 use Rattle.st_ids.specs.Graph.{HasEnds, tail_of, head_of}
 use Rattle.st_ids.specs.Lists.{In, here, there, NoRepeat}
-use Rattle.st_ids.proofs.ListLemmas.{not_in_nil, In-cases}
+use Rattle.st_ids.proofs.Public.{not_in_nil, In-cases}
 use Rattle.st_map.specs.Embedded.{Embedded, HasOrders, bare, edges, darts, tail, head, order, at}
 use Rattle.st_map.specs.Split.{moved, split, SplitsEdge, SplitLaw}
 use Rattle.st_map.proofs.EndLemmas.{even_or_odd, at-tail, at-head, at_below}

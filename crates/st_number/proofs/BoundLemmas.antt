@@ -5,12 +5,10 @@ use Rattle.std.proofs.lemmas.List.{length-map}
 use Rattle.st_ids.specs.Graph.{arcs_of, tail_of, head_of}
 use Rattle.st_ids.specs.Lists.{In, here, there, NoRepeat}
 use Rattle.st_ids.specs.Walks.{Arcs, Walk, stay, step, IsAcyclic}
-use Rattle.st_ids.proofs.ListLemmas.{In-cases}
-use Rattle.st_ids.proofs.WalkLemmas.{on_walk, walk_once, none_from_end, no_loop, reach_trans, reach_refl}
-use Rattle.st_ids.proofs.FiniteLemmas.{IsWithin, length-le_from_below, in_map}
+use Rattle.st_ids.proofs.Public.{In-cases, on_walk, walk_once, none_from_end, no_loop, reach_trans, reach_refl, IsWithin, length-le_from_below, in_map}
 use Rattle.st_map.specs.Embedded.{bare}
 use Rattle.st_sides.specs.Sides.{SidesValue, edge_count, edge_tail, edge_head, primal, IsSides}
-use Rattle.st_sides.proofs.SweepLemmas.{within, dual_acyclic}
+use Rattle.st_sides.proofs.Public.{within, dual_acyclic}
 use Rattle.st_number.specs.Bounds.{BoundsLaw, ToSidesLaw}
 use Rattle.st_number.specs.Greatest.{weigh, IsGreatest}
 use Rattle.st_number.proofs.GreatestLemmas.{last_arc}

@@ -6,11 +6,10 @@ use Rattle.std.specs.Prelude.{slice_get}
 use Rattle.std.proofs.lemmas.Bool.{cases_eq, cases_lt}
 use Rattle.st_ids.specs.Walks.{Walk, stay, step}
 use Rattle.st_ids.specs.declared.ids.FaceId.{FaceId}
-use Rattle.st_ids.proofs.WalkLemmas.{walk_append}
+use Rattle.st_ids.proofs.Public.{walk_append}
 use Rattle.st_sides.specs.Sides.{SidesValue, IsSides, edge_count, face_left, face_right, left_path, dual}
 use Rattle.st_sides.specs.Sweep.{AreSwept, node_numbers}
-use Rattle.st_sides.proofs.PlaceLists.{in_at, at_in}
-use Rattle.st_sides.proofs.SweepLemmas.{dual_acyclic}
+use Rattle.st_sides.proofs.Public.{in_at, at_in, dual_acyclic}
 use Rattle.st_number.specs.Filling.{AreLeftColumns, IsReaching, IsColumnTable, IsFilling}
 use Rattle.st_number.specs.Greatest.{weigh, IsColumn}
 use Rattle.st_number.specs.Heights.{AreColumns}

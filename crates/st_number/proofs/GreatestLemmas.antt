@@ -3,11 +3,9 @@ use Rattle.std.proofs.Common.{ℕ, zero, suc, List, [], ◌∷◌, ◌++◌, ◌
 use Rattle.std.proofs.lemmas.Bool.{cases_eq, cases_lt}
 use Rattle.st_ids.specs.Lists.{In, here}
 use Rattle.st_ids.specs.Walks.{Arcs, Walk, stay, step, IsAcyclic}
-use Rattle.st_ids.proofs.WalkLemmas.{walk_from, walk_to, walk_append}
-use Rattle.st_ids.proofs.FiniteLemmas.{IsWithin, down}
+use Rattle.st_ids.proofs.Public.{walk_from, walk_to, walk_append, IsWithin, down}
 use Rattle.st_sides.specs.Sides.{SidesValue, edge_count, face_left, face_right, left_path, primal, dual, IsInner, IsSides}
-use Rattle.st_sides.proofs.ExclusiveLemmas.{from_source}
-use Rattle.st_sides.proofs.SweepLemmas.{within, dual_acyclic}
+use Rattle.st_sides.proofs.Public.{from_source, within, dual_acyclic}
 use Rattle.st_number.specs.Greatest.{weigh, IsGreatest, IsPass, GreatestLaw, FiniteLaw, HeightsLaw}
 
 pub weigh-append : (w : ℕ → ℕ) (xs ys : List ℕ) → weigh w (xs ++ ys) ≡ weigh w xs + weigh w ys

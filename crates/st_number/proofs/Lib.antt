@@ -1,6 +1,7 @@
-pub mod BoundLemmas
-pub mod FillLemmas
-pub mod GreatestLemmas
-pub mod MarkLemmas
-pub mod NumberLemmas
-pub mod PassLemmas
+mod BoundLemmas
+mod FillLemmas
+mod GreatestLemmas
+mod MarkLemmas
+mod NumberLemmas
+mod PassLemmas
+pub mod Public

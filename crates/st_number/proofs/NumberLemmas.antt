@@ -6,7 +6,7 @@ use Rattle.std.proofs.Common.{ℕ, List, [], ◌∷◌, ◌≡◌, ◌<◌, ◌�
 use Rattle.std.proofs.lemmas.Bool.{cases_lt}
 use Rattle.st_ids.specs.Walks.{Arcs, Walk, IsAcyclic}
 use Rattle.st_sides.specs.Sides.{SidesValue, edge_count, edge_tail, edge_head, face_left, face_right, primal, dual, IsSides}
-use Rattle.st_sides.proofs.SweepLemmas.{dual_acyclic}
+use Rattle.st_sides.proofs.Public.{dual_acyclic}
 use Rattle.st_number.specs.Greatest.{weigh, IsGreatest, GreatestLaw, HeightsLaw}
 use Rattle.st_number.specs.Numbers.{AreWeights, GivesHeights, GivesColumns, NumbersLaw}
 use Rattle.st_number.proofs.GreatestLemmas.{heights_law}

@@ -30,8 +30,8 @@ abbrev pub compare_ends : (ℕ × ℕ) → (ℕ × ℕ) → Ordering
 compare_ends x y = ordering_then (nat_cmp x.0 y.0) (nat_cmp x.1 y.1)
 
 -- what a map has at a pair of numbers
-abbrev pub first_of : BTreeMap (ℕ × ℕ) EdgeId → (ℕ × ℕ) → Option EdgeId
-first_of m q = get compare_ends m q
+abbrev pub first_parallel : BTreeMap (ℕ × ℕ) EdgeId → (ℕ × ℕ) → Option EdgeId
+first_parallel m q = get compare_ends m q
 
 -- Of the first k edges: the first with each pair of ends is known, and those that have a parallel among them are marked.
 pub record IsMarking (g : Embedded) (first : (ℕ × ℕ) → Option EdgeId) (flags : List Bool) (k : ℕ) : Type 0 where

@@ -2,7 +2,7 @@
 ghost use Rattle.std.specs.Prelude.{◌≡◌, ◌+◌, ◌<◌, ℕ, Some, cond, IfOk, OnOk};
 ghost use Rattle.std.specs.Ordering.{is_eq};
 ghost use Rattle.st_map.specs.Embedded.{edges};
-ghost use Rattle.st_number.specs.Parallel.{AreParallel, IsMarking, compare_ends, first_of};
+ghost use Rattle.st_number.specs.Parallel.{AreParallel, IsMarking, compare_ends, first_parallel};
 
 use st_ids::{EdgeId, IdVec, NoMemory};
 use st_map::Map;
@@ -16,8 +16,8 @@ fn note(
     ends: (u32, u32),
     e: EdgeId,
 ) -> Result<(), NoMemory>
-    ensures there { OnOk result (first_of first.new ends ≡ Some e) }
-    ensures others { OnOk result ((q : ℕ × ℕ) → first_of first.new q ≡ cond (is_eq (compare_ends ends q)) (Some e) (first_of first.old q)) }
+    ensures there { OnOk result (first_parallel first.new ends ≡ Some e) }
+    ensures others { OnOk result ((q : ℕ × ℕ) → first_parallel first.new q ≡ cond (is_eq (compare_ends ends q)) (Some e) (first_parallel first.old q)) }
 {
     match first.insert(ends, e) {
         Ok(_) => Ok(()),
@@ -33,8 +33,8 @@ fn mark(
     e: EdgeId,
 ) -> Result<(), NoMemory>
     requires there { e.0 < edges map.now.graph }
-    requires marking { IsMarking map.now.graph (first_of first.old) flags.old e.0 }
-    ensures { OnOk result (IsMarking map.now.graph (first_of first.new) flags.new (e.0 + 1)) }
+    requires marking { IsMarking map.now.graph (first_parallel first.old) flags.old e.0 }
+    ensures { OnOk result (IsMarking map.now.graph (first_parallel first.new) flags.new (e.0 + 1)) }
 {
     let ends = (map.tail(e).0, map.head(e).0);
     let found = first.get(&ends).copied();

@@ -5,7 +5,7 @@ ghost use Rattle.st_ids.specs.Graph.{HasEnds};
 ghost use Rattle.st_map.specs.Embedded.{edges};
 ghost use Rattle.st_number.specs.Heights.{AreHeights, AreSums, AreTaken};
 ghost use Rattle.st_number.specs.Passing.{IsEdgeOrder, IsPassTable};
-ghost use Rattle.st_number.specs.Weighing.{IsLawful};
+ghost use Rattle.st_number.specs.Weighing.{AreLawfulWeights};
 
 use crate::weights::Weights;
 use st_ids::{Digraph, EdgeId, Id, IdVec, NoMemory, VertexId};
@@ -19,7 +19,7 @@ fn take_all<F: Fn(EdgeId) -> u32>(
     map: &Map,
     w: &Weights<F>,
 ) -> Result<IdVec<EdgeId, u32>, NoMemory>
-    requires lawful { IsLawful F.pre F.post w.now }
+    requires lawful { AreLawfulWeights F.pre F.post w.now }
     requires edges { w.now.edges ≡ edges map.now.graph }
     ensures { IfOk result (AreTaken (F.post w.now.closure) (edges map.now.graph) w.now.most) }
 {
@@ -110,7 +110,7 @@ pub fn heights<F: Fn(EdgeId) -> u32>(
     graph: &StGraph,
     w: &Weights<F>,
 ) -> Result<IdVec<VertexId, i64>, NoMemory>
-    requires lawful { IsLawful F.pre F.post w.now }
+    requires lawful { AreLawfulWeights F.pre F.post w.now }
     requires edges { w.now.edges ≡ edges graph.now.map.graph }
     ensures { IfOk result (AreHeights (F.post w.now.closure) graph.now.map.graph graph.now.source w.now.most) }
 {

@@ -1,6 +1,6 @@
 //! A stored closure that weighs edges.
 ghost use Rattle.std.specs.Prelude.{◌≡◌, ◌<◌, ◌≤◌};
-ghost use Rattle.st_number.specs.Weighing.{IsLawful};
+ghost use Rattle.st_number.specs.Weighing.{AreLawfulWeights};
 
 use st_ids::EdgeId;
 use std::marker::Model;
@@ -30,11 +30,11 @@ impl<F> Model for Weights<F> {
 impl<F: Fn(EdgeId) -> u32> Weights<F> {
     /// The closure with the number of edges that it is for, and the greatest weight, from 1 to 1000.
     pub fn new(f: F, edges: u32, most: u32) -> Weights<F>
-        requires lawful { IsLawful F.pre F.post (record { closure = f; edges = edges; most = most }) }
+        requires lawful { AreLawfulWeights F.pre F.post (record { closure = f; edges = edges; most = most }) }
         requires some { 1 ≤ most }
         requires few { most ≤ 1000 }
         ensures value { result ≡ record { closure = f; edges = edges; most = most } }
-        ensures lawful { IsLawful F.pre F.post result }
+        ensures lawful { AreLawfulWeights F.pre F.post result }
     {
         Weights {
             closure: f,
@@ -46,7 +46,7 @@ impl<F: Fn(EdgeId) -> u32> Weights<F> {
     /// A weight that the closure answers on the edge, from 1 to `most`. It is asked once.
     pub fn weight(&self, e: EdgeId) -> u32
         requires there { e.0 < self.now.edges }
-        requires lawful { IsLawful F.pre F.post self.now }
+        requires lawful { AreLawfulWeights F.pre F.post self.now }
         ensures answer { F.post self.now.closure e result }
         ensures from_one { 1 ≤ result }
         ensures to_most { result ≤ self.now.most }

@@ -7,13 +7,8 @@ use Rattle.st_sides.specs.Sides.{SidesValue, edge_count, edge_tail, edge_head, f
 use Rattle.st_sides.specs.Sweep.{OnBoundary}
 use Rattle.st_sides.specs.Objects.{vertex, LeftOf}
 use Rattle.st_order.specs.Orders.{BeforeOrLeft, BeforeOrRight, IsX, IsY}
-use Rattle.st_ids.proofs.ListLemmas.{not_in_nil, In-cases, in_subst, in_left, in_right, in_append, first_of, turn, turn_before}
-use Rattle.st_ids.proofs.WalkLemmas.{walk_from, walk_append, reach_refl, on_walk}
-use Rattle.st_ids.proofs.FiniteLemmas.{down}
-use Rattle.st_sides.proofs.FanLemmas.{order_out, order_out_beside}
-use Rattle.st_sides.proofs.BoundaryLemmas.{Swept, closed_reach, swept_below, swept_zero}
-use Rattle.st_sides.proofs.SweepLemmas.{within}
-use Rattle.st_sides.proofs.ExclusiveLemmas.{to_sink, fit, across_out, not_before_left, not_before_right}
+use Rattle.st_ids.proofs.Public.{not_in_nil, In-cases, in_subst, in_left, in_right, in_append, first_of, turn, turn_before, walk_from, walk_append, reach_refl, on_walk, down}
+use Rattle.st_sides.proofs.Public.{order_out, order_out_beside, Swept, closed_reach, swept_below, swept_zero, within, to_sink, fit, across_out, not_before_left, not_before_right}
 use Rattle.st_order.proofs.RankLemmas.{rank_by_order}
 use Rattle.st_order.proofs.OrderLemmas.{x_vertices, y_vertices}
 

@@ -1,7 +1,8 @@
-pub mod BranchLemmas
-pub mod LabelLemmas
-pub mod NumberLemmas
-pub mod OrderLemmas
-pub mod RankLemmas
-pub mod StackLemmas
-pub mod TraversalLemmas
+mod BranchLemmas
+mod LabelLemmas
+mod NumberLemmas
+mod OrderLemmas
+mod RankLemmas
+mod StackLemmas
+mod TraversalLemmas
+pub mod Public

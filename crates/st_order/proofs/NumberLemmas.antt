@@ -3,7 +3,7 @@ use Rattle.std.proofs.Common.{ℕ, ◌≡◌, ◌<◌, ◌≤◌, ◌⊎◌, inl
 use Rattle.std.proofs.lemmas.Bool.{cases_lt}
 use Rattle.st_order.specs.Laws.{IsNumbering}
 use Rattle.st_order.specs.Orders.{IsX, IsY}
-use Rattle.st_order.specs.Numbers.{NumbersLaw}
+use Rattle.st_order.specs.Numbers.{OrderNumbersLaw}
 use Rattle.st_order.proofs.OrderLemmas.{numberings_law}
 
 -- a numbering given by a relation, as a function and its inverse
@@ -56,7 +56,7 @@ module _ (n : ℕ) (R : ℕ → ℕ → Type 0) (N : IsNumbering n R) where
         of_at = λ i l. (let F = found i (cases_lt i n) l in N.one (at i) (of (at i)) i (is (at i) F.within) F.has);
       }
 
-pub numbers_law : NumbersLaw
+pub numbers_law : OrderNumbersLaw
 numbers_law g S =
     let O = numberings_law g S in
     let X = chosen g.vertices (IsX g) O.x_numbers in

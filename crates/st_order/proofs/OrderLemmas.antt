@@ -6,9 +6,8 @@ use Rattle.st_sides.specs.Sides.{SidesValue, primal, IsSides}
 use Rattle.st_sides.specs.Objects.{Object, vertex, IsObject, Before, LeftOf, before, after, leftward, rightward}
 use Rattle.st_order.specs.Orders.{BeforeOrLeft, BeforeOrRight, IsX, IsY}
 use Rattle.st_order.specs.Laws.{IsStrictOrder, IsNumbering, OrdersLaw, NumberingsLaw, ReachingLaw}
-use Rattle.st_ids.proofs.WalkLemmas.{reach_refl, reach_trans, reach_arc}
-use Rattle.st_sides.proofs.ExclusiveLemmas.{across, own, own_walk, not_left_from, not_before_after, not_before_left, not_before_right, not_left_right}
-use Rattle.st_sides.proofs.TotalLemmas.{compared}
+use Rattle.st_ids.proofs.Public.{reach_refl, reach_trans, reach_arc}
+use Rattle.st_sides.proofs.Public.{across, own, own_walk, not_left_from, not_before_after, not_before_left, not_before_right, not_left_right, compared}
 use Rattle.st_order.proofs.RankLemmas.{numbering, rank_grows, from_ranks, Counts-one}
 
 module _ (g : SidesValue) (S : IsSides g) where

@@ -5,8 +5,7 @@ use Rattle.std.proofs.lemmas.List.{length-map}
 use Rattle.st_ids.specs.Lists.{In, here, there, NoRepeat, Lists}
 use Rattle.st_order.specs.Orders.{Counts}
 use Rattle.st_order.specs.Laws.{IsStrictOrder, IsNumbering}
-use Rattle.st_ids.proofs.ListLemmas.{not_in_nil, In-cases, in_subst, in_dec, in_append, in_left, in_right, Cut, cut_at}
-use Rattle.st_ids.proofs.FiniteLemmas.{length-le_from_below, in_map}
+use Rattle.st_ids.proofs.Public.{not_in_nil, In-cases, in_subst, in_dec, in_append, in_left, in_right, Cut, cut_at, length-le_from_below, in_map}
 
 -- a list without repeats is no longer than one that has its elements
 pub length-le_from_In : (xs ys : List ℕ) → NoRepeat xs → ((x : ℕ) → In x xs → In x ys) → length xs ≤ length ys

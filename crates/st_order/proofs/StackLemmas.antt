@@ -9,10 +9,9 @@ use Rattle.st_ids.specs.Lists.{here}
 use Rattle.st_sides.specs.Sides.{SidesValue, IsSides, edge_count, edge_head, outs, ins}
 use Rattle.st_sides.specs.Objects.{vertex, LeftOf}
 use Rattle.st_order.proofs.BranchLemmas.{branches_right, branches_left, x_by_order, y_by_order}
-use Rattle.st_ids.proofs.ListLemmas.{not_in_nil, turn, turn_left, in_turn, turn_once}
-use Rattle.st_ids.proofs.FiniteLemmas.{length-le_from_below}
+use Rattle.st_ids.proofs.Public.{not_in_nil, turn, turn_left, in_turn, turn_once, length-le_from_below}
 use Rattle.st_ids.specs.EdgeNumbers.{numbers}
-use Rattle.st_order.specs.Labels.{AreNumbers}
+use Rattle.st_order.specs.Labels.{AreSideNumbers}
 use Rattle.st_order.proofs.TraversalLemmas.{IsOrdered, IsTraversal, start, some, pass, number, IsKept, kept}
 
 -- ---- the stack
@@ -189,7 +188,7 @@ module _ {g : SidesValue} (S : IsSides g) {b : Bool} where
         omega arith
 
 -- when no edge waits, the numbers are those meant
-pub going_end : {g : SidesValue} → IsSides g → (b : Bool) {stack : List EdgeId} {waiting numbered : List ℕ} {next : ℕ} → length stack ≡ 0 → IsGoing g b stack waiting numbered next → AreNumbers b g numbered
+pub going_end : {g : SidesValue} → IsSides g → (b : Bool) {stack : List EdgeId} {waiting numbered : List ℕ} {next : ℕ} → length stack ≡ 0 → IsGoing g b stack waiting numbered next → AreSideNumbers b g numbered
 going_end {g} S true {stack} {waiting} {numbered} {next} q R = record {
   size = R.numbered_size;
   each = x_by_order g S (entry numbered) K.below (λ u v i j h. K.grows u v i j (λ p. h.0 (ap vertex p)) h.1);

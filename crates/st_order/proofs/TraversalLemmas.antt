@@ -5,11 +5,8 @@ use Rattle.st_ids.specs.Lists.{In, here, there, NoRepeat, Precedes, Lists}
 use Rattle.st_ids.specs.Walks.{Walk, stay, step, Reaches}
 use Rattle.st_sides.specs.Sides.{SidesValue, edge_count, edge_tail, edge_head, ins, primal, IsSides}
 use Rattle.st_order.specs.Orders.{Counts}
-use Rattle.st_ids.proofs.ListLemmas.{not_in_nil, In-cases, in_left, in_right, in_append, in_dec, cut_at, Cut, in_subst, Precedes-right}
-use Rattle.st_ids.proofs.Public.{joined_once}
-use Rattle.st_ids.proofs.WalkLemmas.{walk_append}
+use Rattle.st_ids.proofs.Public.{not_in_nil, In-cases, in_left, in_right, in_append, in_dec, cut_at, Cut, in_subst, Precedes-right, joined_once, walk_append, Without, without, length-le_from_below, down}
 use Rattle.st_order.proofs.BranchLemmas.{Branch}
-use Rattle.st_ids.proofs.FiniteLemmas.{Without, without, length-le_from_below, down}
 
 -- ---- lists
 in_without : (p q : List ℕ) (x : ℕ) {y : ℕ} → In y (p ++ q) → In y (p ++ x ∷ q)

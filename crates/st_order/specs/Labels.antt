@@ -1,7 +1,7 @@
 -- The two numbers of each vertex, as lists.
 -- Letters: g sides, l labels, xs a list, u and v vertices.
 --   AreX g xs, AreY g xs     the list has one entry for each vertex, its number X or its number Y
---   AreNumbers b g xs        AreX where b is true, AreY where it is false
+--   AreSideNumbers b g xs    AreX where b is true, AreY where it is false
 --   AreLabels g l            the two lists of l are these
 --   AreAtMost l u v          both entries of u are at most those of v
 use Rattle.std.specs.Prelude.{ℕ, List, Bool, true, false, ◌≡◌, ◌<◌, ◌≤◌, length, slice_index_or}
@@ -20,9 +20,9 @@ pub record AreY (g : SidesValue) (xs : List ℕ) : Type 0 where
   pub each : (v : ℕ) → v < g.vertices → IsY g v (slice_index_or xs v 0)
 
 -- X by edges taken from the left, Y by edges taken from the right
-abbrev pub AreNumbers : Bool → SidesValue → List ℕ → Type 0
-AreNumbers true g xs = AreX g xs
-AreNumbers false g xs = AreY g xs
+abbrev pub AreSideNumbers : Bool → SidesValue → List ℕ → Type 0
+AreSideNumbers true g xs = AreX g xs
+AreSideNumbers false g xs = AreY g xs
 
 -- Both lists have one entry for each vertex, and these are its numbers.
 pub record AreLabels (g : SidesValue) (l : Labels) : Type 0 where

@@ -4,7 +4,7 @@
 --   AreNumberings n X Y at_x at_y    X and at_x, and Y and at_y, number the vertices below n and undo one another
 --   HasNumbers g X Y at_x at_y       X and Y are the two numbers of each vertex
 --   SomeNumbers g                    four such functions
---   NumbersLaw                       all sides of planar st-graphs have them
+--   OrderNumbersLaw                  all sides of planar st-graphs have them
 use Rattle.std.specs.Prelude.{ℕ, ◌≡◌, ◌<◌}
 use Rattle.st_order.specs.Orders.{IsX, IsY}
 use Rattle.st_sides.specs.Sides.{SidesValue, IsSides}
@@ -35,5 +35,5 @@ pub record SomeNumbers (g : SidesValue) : Type 0 where
   pub are : HasNumbers g x y at_x at_y
 
 -- all sides of planar st-graphs have them
-abbrev pub NumbersLaw : Type 0
-NumbersLaw = (g : SidesValue) → IsSides g → SomeNumbers g
+abbrev pub OrderNumbersLaw : Type 0
+OrderNumbersLaw = (g : SidesValue) → IsSides g → SomeNumbers g

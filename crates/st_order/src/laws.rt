@@ -1,7 +1,7 @@
 //! Laws of the two orders and the two numbers: empty functions, whose contracts are theorems about the definitions of
 //! specs/.
 ghost use Rattle.st_order.specs.Laws.{NumberingsLaw, OrdersLaw, ReachingLaw};
-ghost use Rattle.st_order.specs.Numbers.{NumbersLaw};
+ghost use Rattle.st_order.specs.Numbers.{OrderNumbersLaw};
 
 /// 'Before or left of' and 'before or right of' are strict total orders of all vertices and edges, and what is left of
 /// something that is left of a third is left of the third.
@@ -23,5 +23,5 @@ pub fn reaching()
 /// There are functions that give each vertex its two numbers, and functions that give the vertex of each number X and of
 /// each number Y.
 pub fn numbers_exist()
-    ensures { NumbersLaw }
+    ensures { OrderNumbersLaw }
 {}

@@ -6,7 +6,7 @@
 //! it is the same, mirrored.
 ghost use Rattle.std.specs.Prelude.{◌≡◌, ◌<◌, ◌++◌, ◌↔◌, ℕ, length, reverse, slice_index_or, if◌then◌else◌, IfOk, OnOk};
 ghost use Rattle.st_ids.specs.Walks.{Reaches};
-ghost use Rattle.st_order.specs.Labels.{AreAtMost, AreLabels, AreNumbers};
+ghost use Rattle.st_order.specs.Labels.{AreAtMost, AreLabels, AreSideNumbers};
 ghost use Rattle.st_sides.specs.Sides.{ins, primal};
 
 use crate::table::Labels;
@@ -44,7 +44,7 @@ fn put(stack: &mut Vec<EdgeId>, es: &[EdgeId], from_left: bool) -> Result<(), No
 /// left to right, or from right to left.
 #[inline(always)]
 fn traverse(alloc: Global, sides: &Sides, from_left: bool) -> Result<IdVec<VertexId, u32>, NoMemory>
-    ensures { IfOk result (λ xs. AreNumbers from_left sides.now xs) }
+    ensures { IfOk result (λ xs. AreSideNumbers from_left sides.now xs) }
 {
     st_sides::laws::local(sides);
     let mut waiting = degrees(alloc, sides)?;

@@ -5,13 +5,13 @@ use Rattle.std.proofs.lemmas.Bool.{cases_Bool, eqb-true}
 use Rattle.std.proofs.lemmas.Bool.Decides.{same_from_decides}
 use Rattle.std.proofs.lemmas.Slice.Eq.{bytes_eq-Decides}
 use Rattle.gml_core.specs.Trees.{Entry}
-use Rattle.st_parts.specs.Used.{key_of}
-use Rattle.st_parts.specs.Keys.{word, keys, rank, known_among, known, same, IsKnown}
+use Rattle.st_parts.specs.Used.{key_text}
+use Rattle.st_parts.specs.Keys.{word_of_key, all_keys, key_rank, known_among, known, same, IsKnown}
 use Rattle.st_parts.specs.declared.keys.Key.{Key}
 use Rattle.st_parts.specs.declared.keys.Key.TheVariants.{Source, Target, Edge, Node, Id, Name, Label, Order, Path, Outer, Side}
 
 -- the table has a key under its own bytes
-word_known : (k : Key) → known (word k) ≡ Some k
+word_known : (k : Key) → known (word_of_key k) ≡ Some k
 word_known Source = refl
 word_known Target = refl
 word_known Edge = refl
@@ -26,9 +26,9 @@ word_known Side = refl
 
 -- each key has the place of its rank in the table
 rank_at : ℕ → Key
-rank_at n = slice_index_or keys n Side
+rank_at n = slice_index_or all_keys n Side
 
-at_rank : (k : Key) → rank_at (rank k) ≡ k
+at_rank : (k : Key) → rank_at (key_rank k) ≡ k
 unfolding rank_at
 at_rank Source = refl
 at_rank Target = refl
@@ -56,43 +56,43 @@ same_self Outer = refl
 same_self Side = refl
 
 -- a key that the table finds has these bytes
-spelled : (ks : List Key) (bs : List ℕ) (j : Key) → known_among ks bs ≡ Some j → bs ≡ word j
+spelled : (ks : List Key) (bs : List ℕ) (j : Key) → known_among ks bs ≡ Some j → bs ≡ word_of_key j
 spelled [] bs j h = absurd (cc)
-spelled (k ∷ ks) bs j h = elim (cases_Bool (bytes_eq bs (word k))) [
-  | inl t ↦ let e = rw t at h in let kj : k ≡ j = cc in (bytes_eq-Decides bs (word k)).0 t ∙ ap word kj
+spelled (k ∷ ks) bs j h = elim (cases_Bool (bytes_eq bs (word_of_key k))) [
+  | inl t ↦ let e = rw t at h in let kj : k ≡ j = cc in (bytes_eq-Decides bs (word_of_key k)).0 t ∙ ap word_of_key kj
   | inr f ↦ let e = rw f at h in spelled ks bs j e
 ]
 
 same_some : (k : Key) (o : Option Key) → same k o ≡ true → o ≡ Some k
 same_some k None h = absurd (cc)
 same_some k (Some j) h =
-    let ranks : rank k ≡ rank j = eqb-true (rank k) (rank j) h in
+    let ranks : key_rank k ≡ key_rank j = eqb-true (key_rank k) (key_rank j) h in
     ap (λ (i : Key). Some i) (sym (at_rank j) ∙ ap rank_at (sym ranks) ∙ at_rank k)
 
 -- whether the table finds a key is whether the bytes are those of the key
-same_decides : (k : Key) (bs : List ℕ) → Decides (same k (known bs)) (bs ≡ word k)
+same_decides : (k : Key) (bs : List ℕ) → Decides (same k (known bs)) (bs ≡ word_of_key k)
 same_decides k bs = (
-  (λ (t : same k (known bs) ≡ true). spelled keys bs k (same_some k (known bs) t)),
-  (λ (e : bs ≡ word k). ap (λ (cs : List ℕ). same k (known cs)) e ∙ ap (same k) (word_known k) ∙ same_self k),
+  (λ (t : same k (known bs) ≡ true). spelled all_keys bs k (same_some k (known bs) t)),
+  (λ (e : bs ≡ word_of_key k). ap (λ (cs : List ℕ). same k (known cs)) e ∙ ap (same k) (word_known k) ∙ same_self k),
 )
 
-pub has_word : (k : Key) (bs : List ℕ) → bytes_eq bs (word k) ≡ same k (known bs)
-has_word k bs = same_from_decides (bytes_eq bs (word k)) (same k (known bs)) (bytes_eq-Decides bs (word k)) (same_decides k bs)
+pub has_word : (k : Key) (bs : List ℕ) → bytes_eq bs (word_of_key k) ≡ same k (known bs)
+has_word k bs = same_from_decides (bytes_eq bs (word_of_key k)) (same k (known bs)) (bytes_eq-Decides bs (word_of_key k)) (same_decides k bs)
 
 -- which key a pair has
-pub is_known : (e : Entry) → IsKnown (known (key_of e)) e
+pub is_known : (e : Entry) → IsKnown (known (key_text e)) e
 is_known e = record {
-  source = has_word Source (key_of e);
-  target = has_word Target (key_of e);
-  edge = has_word Edge (key_of e);
-  node = has_word Node (key_of e);
-  id = has_word Id (key_of e);
-  name = has_word Name (key_of e);
-  label = has_word Label (key_of e);
-  order = has_word Order (key_of e);
-  path = has_word Path (key_of e);
-  outer = has_word Outer (key_of e);
-  side = has_word Side (key_of e);
+  source = has_word Source (key_text e);
+  target = has_word Target (key_text e);
+  edge = has_word Edge (key_text e);
+  node = has_word Node (key_text e);
+  id = has_word Id (key_text e);
+  name = has_word Name (key_text e);
+  label = has_word Label (key_text e);
+  order = has_word Order (key_text e);
+  path = has_word Path (key_text e);
+  outer = has_word Outer (key_text e);
+  side = has_word Side (key_text e);
 }
 
 -- six bytes, each of which is known

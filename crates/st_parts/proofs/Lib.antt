@@ -1,3 +1,3 @@
-pub mod PairLemmas
-pub mod KeyLemmas
-pub mod StepLemmas
+mod PairLemmas
+mod KeyLemmas
+mod StepLemmas

@@ -4,7 +4,7 @@ use Rattle.std.proofs.Common.{◌≡◌, ◌≤◌, ◌+◌, ℕ, ℤ, Bool, tru
 use Rattle.std.proofs.lemmas.List.{length-append}
 use Rattle.std.specs.Option.{option_or}
 use Rattle.gml_core.specs.Trees.{Entry}
-use Rattle.st_parts.specs.Used.{has_key, first, each}
+use Rattle.st_parts.specs.Used.{has_key, first_with, each}
 use Rattle.st_parts.specs.Kinds.{earlier, earliest}
 use Rattle.st_parts.specs.Parts.{node_in, label_in, edge_in, outer_in, path_in, parts_say}
 use Rattle.st_parts.specs.declared.parts.Node.{Node}
@@ -12,17 +12,17 @@ use Rattle.st_parts.specs.declared.parts.Edge.{Edge}
 use Rattle.st_parts.specs.declared.parts.Outer.{Outer}
 use Rattle.st_parts.specs.declared.parts.Parts.{Parts}
 
-first_more : (key : List ℕ) (e : Entry) (rest : List Entry) (o : Option Entry) → option_or (option_or o (first key (e ∷ []))) (first key rest) ≡ option_or o (first key (e ∷ rest))
+first_more : (key : List ℕ) (e : Entry) (rest : List Entry) (o : Option Entry) → option_or (option_or o (first_with key (e ∷ []))) (first_with key rest) ≡ option_or o (first_with key (e ∷ rest))
 first_more key e rest (Some x) = refl
 first_more key e rest None = by (has_key key e)
   where
-    by : (b : Bool) → option_or (cond b (Some e) None) (first key rest) ≡ cond b (Some e) (first key rest)
+    by : (b : Bool) → option_or (cond b (Some e) None) (first_with key rest) ≡ cond b (Some e) (first_with key rest)
     by true = refl
     by false = refl
 
-pub first_step : (key : List ℕ) (es d rest : List Entry) (e : Entry) (before after : Option Entry) → d ≡ e ∷ rest → after ≡ option_or before (first key (e ∷ [])) → option_or before (first key d) ≡ first key es → option_or after (first key rest) ≡ first key es
+pub first_step : (key : List ℕ) (es d rest : List Entry) (e : Entry) (before after : Option Entry) → d ≡ e ∷ rest → after ≡ option_or before (first_with key (e ∷ [])) → option_or before (first_with key d) ≡ first_with key es → option_or after (first_with key rest) ≡ first_with key es
 first_step key es d rest e before after is step so_far =
-    ap (λ (o : Option Entry). option_or o (first key rest)) step ∙ first_more key e rest before ∙ ap (λ (l : List Entry). option_or before (first key l)) (sym is) ∙ so_far
+    ap (λ (o : Option Entry). option_or o (first_with key rest)) step ∙ first_more key e rest before ∙ ap (λ (l : List Entry). option_or before (first_with key l)) (sym is) ∙ so_far
 
 each_more : {A : Type 0} (key : List ℕ) (says : Entry → A) (e : Entry) (rest : List Entry) (before : List A) → (before ++ each key says (e ∷ [])) ++ each key says rest ≡ before ++ each key says (e ∷ rest)
 each_more {A} key says e rest before = by (has_key key e)
@@ -66,12 +66,12 @@ or_nothing : (o : Option Entry) → option_or o None ≡ o
 or_nothing None = refl
 or_nothing (Some e) = refl
 
-pub first_done : (key : List ℕ) (es d : List Entry) (o : Option Entry) → d ≡ [] → option_or o (first key d) ≡ first key es → o ≡ first key es
-first_done key es d o is so_far = sym (or_nothing o) ∙ ap (λ (l : List Entry). option_or o (first key l)) (sym is) ∙ so_far
+pub first_done : (key : List ℕ) (es d : List Entry) (o : Option Entry) → d ≡ [] → option_or o (first_with key d) ≡ first_with key es → o ≡ first_with key es
+first_done key es d o is so_far = sym (or_nothing o) ∙ ap (λ (l : List Entry). option_or o (first_with key l)) (sym is) ∙ so_far
 
 abbrev pub parts_with : List Node → List (Option (List ℕ)) → List Edge → Option Outer → List (List ℤ) → Parts
 parts_with ns ls es o ps = record { nodes = ns; labels = ls; edges = es; outer = o; paths = ps }
 
 -- what is said, field by field
-pub parts_are : (es : List Entry) (ns : List Node) (ls : List (Option (List ℕ))) (ds : List Edge) (o : Option Outer) (ps : List (List ℤ)) → ns ≡ each (codes "node") node_in es → ls ≡ each (codes "node") label_in es → ds ≡ each (codes "edge") edge_in es → o ≡ option_map outer_in (first (codes "outer") es) → ps ≡ each (codes "path") path_in es → parts_with ns ls ds o ps ≡ parts_say es
+pub parts_are : (es : List Entry) (ns : List Node) (ls : List (Option (List ℕ))) (ds : List Edge) (o : Option Outer) (ps : List (List ℤ)) → ns ≡ each (codes "node") node_in es → ls ≡ each (codes "node") label_in es → ds ≡ each (codes "edge") edge_in es → o ≡ option_map outer_in (first_with (codes "outer") es) → ps ≡ each (codes "path") path_in es → parts_with ns ls ds o ps ≡ parts_say es
 parts_are es ns ls ds o ps e0 e1 e2 e3 e4 = rw (e0, e1, e2, e3, e4) refl

@@ -1,6 +1,6 @@
 -- The keys that are used. A new key is a row of each table here, and a field of `IsKnown`.
---   word k          the bytes of a key
---   keys            all keys, the frequent ones first
+--   word_of_key k   the bytes of a key
+--   all_keys        all keys, the frequent ones first
 --   known bs        the key that has these bytes
 --   same k o        whether it is that one
 --   IsKnown o e     which key a pair has
@@ -10,46 +10,46 @@ use Rattle.st_parts.specs.Used.{has_key}
 use Rattle.st_parts.specs.declared.keys.Key.{Key}
 use Rattle.st_parts.specs.declared.keys.Key.TheVariants.{Source, Target, Edge, Node, Id, Name, Label, Order, Path, Outer, Side}
 
-abbrev pub word : Key → List ℕ
-word Source = codes "source"
-word Target = codes "target"
-word Edge = codes "edge"
-word Node = codes "node"
-word Id = codes "id"
-word Name = codes "e"
-word Label = codes "label"
-word Order = codes "order"
-word Path = codes "path"
-word Outer = codes "outer"
-word Side = codes "side"
+abbrev pub word_of_key : Key → List ℕ
+word_of_key Source = codes "source"
+word_of_key Target = codes "target"
+word_of_key Edge = codes "edge"
+word_of_key Node = codes "node"
+word_of_key Id = codes "id"
+word_of_key Name = codes "e"
+word_of_key Label = codes "label"
+word_of_key Order = codes "order"
+word_of_key Path = codes "path"
+word_of_key Outer = codes "outer"
+word_of_key Side = codes "side"
 
-abbrev pub keys : List Key
-keys = Source ∷ Target ∷ Edge ∷ Node ∷ Id ∷ Name ∷ Label ∷ Order ∷ Path ∷ Outer ∷ Side ∷ []
+abbrev pub all_keys : List Key
+all_keys = Source ∷ Target ∷ Edge ∷ Node ∷ Id ∷ Name ∷ Label ∷ Order ∷ Path ∷ Outer ∷ Side ∷ []
 
-abbrev pub rank : Key → ℕ
-rank Source = 0
-rank Target = 1
-rank Edge = 2
-rank Node = 3
-rank Id = 4
-rank Name = 5
-rank Label = 6
-rank Order = 7
-rank Path = 8
-rank Outer = 9
-rank Side = 10
+abbrev pub key_rank : Key → ℕ
+key_rank Source = 0
+key_rank Target = 1
+key_rank Edge = 2
+key_rank Node = 3
+key_rank Id = 4
+key_rank Name = 5
+key_rank Label = 6
+key_rank Order = 7
+key_rank Path = 8
+key_rank Outer = 9
+key_rank Side = 10
 
 -- the key among some that has these bytes
 abbrev pub known_among : List Key → List ℕ → Option Key
 known_among [] bs = None
-known_among (k ∷ ks) bs = if bytes_eq bs (word k) then Some k else known_among ks bs
+known_among (k ∷ ks) bs = if bytes_eq bs (word_of_key k) then Some k else known_among ks bs
 
 abbrev pub known : List ℕ → Option Key
-known bs = known_among keys bs
+known bs = known_among all_keys bs
 
 abbrev pub same : Key → Option Key → Bool
 same k None = false
-same k (Some j) = rank k == rank j
+same k (Some j) = key_rank k == key_rank j
 
 -- which key a pair has
 pub record IsKnown (o : Option Key) (e : Entry) : Type 0 where

@@ -8,7 +8,7 @@
 --   bad_kind text             the least place of a used pair whose value has another kind than it should
 use Rattle.std.specs.Prelude.{ℕ, min, List, [], ◌∷◌, Option, None, Some, if◌then◌else◌, codes, is_some}
 use Rattle.gml_core.specs.Trees.{Entry}
-use Rattle.st_parts.specs.Used.{place_of, datum_of, has_key, first, int_in, list_in}
+use Rattle.st_parts.specs.Used.{place_of, datum_of, has_key, first_with, int_in, list_in}
 
 -- the lesser of two places, where they are there
 abbrev pub earlier : Option ℕ → Option ℕ → Option ℕ
@@ -32,7 +32,7 @@ wrong_of (Some e) = wrong e
 
 -- of the first pair with the key
 abbrev pub first_wrong : List ℕ → List Entry → Option ℕ
-first_wrong key es = wrong_of (first key es)
+first_wrong key es = wrong_of (first_with key es)
 
 -- in a list of names of edges, each pair `e` is an integer
 abbrev pub name_wrong_of : Entry → Option ℕ
@@ -56,7 +56,7 @@ inside_of within (Some e) = inside within e
 
 -- in the list of the first pair with the key
 abbrev pub first_inside : (List Entry → Option ℕ) → List ℕ → List Entry → Option ℕ
-first_inside within key es = inside_of within (first key es)
+first_inside within key es = inside_of within (first_with key es)
 
 abbrev pub node_wrong : List Entry → Option ℕ
 node_wrong es = earlier (first_wrong (codes "id") es) (first_inside names_wrong (codes "order") es)

@@ -11,7 +11,7 @@
 use Rattle.std.specs.Prelude.{ℕ, ℤ, pos, ◌&&◌, nat_le, map, take, length, ◌==◌, List, [], Option, None, Some, if◌then◌else◌, codes, slice_get}
 use Rattle.std.specs.Option.{option_map, unwrap_or}
 use Rattle.gml_core.specs.Trees.{Entry}
-use Rattle.st_parts.specs.Used.{place_of, datum_of, first, each, int_in, list_in, first_int, first_str, first_list}
+use Rattle.st_parts.specs.Used.{place_of, datum_of, first_with, each, int_in, list_in, first_int, first_str, first_list}
 use Rattle.st_parts.specs.declared.parts.Mention.{Mention}
 use Rattle.st_parts.specs.declared.parts.Node.{Node}
 use Rattle.st_parts.specs.declared.parts.Edge.{Edge}
@@ -68,7 +68,7 @@ edge_says es = record {
 abbrev pub outer_says : ℕ → List Entry → Outer
 outer_says at es = record {
   at = at;
-  edge = option_map mention_in (first (codes "edge") es);
+  edge = option_map mention_in (first_with (codes "edge") es);
   side = first_int (codes "side") es;
 }
 
@@ -93,7 +93,7 @@ parts_say es = record {
   nodes = each (codes "node") node_in es;
   labels = each (codes "node") label_in es;
   edges = each (codes "edge") edge_in es;
-  outer = option_map outer_in (first (codes "outer") es);
+  outer = option_map outer_in (first_with (codes "outer") es);
   paths = each (codes "path") path_in es;
 }
 

@@ -2,7 +2,7 @@
 ghost use Rattle.gml_core.specs.Sound.{IsSound};
 ghost use Rattle.gml_core.specs.Trees.{listed};
 ghost use Rattle.gml_core.specs.Views.{entry_view, view};
-ghost use Rattle.st_parts.specs.Used.{HasSoundList, datum_of, first};
+ghost use Rattle.st_parts.specs.Used.{HasSoundList, datum_of, first_with};
 ghost use Rattle.std.specs.Option.{option_or};
 ghost use Rattle.std.specs.Prelude.{◌≡◌, [], ◌∷◌, codes, None, option_map, IfSome};
 
@@ -37,13 +37,13 @@ pub(crate) fn or_pair<'a>(before: Option<&'a Pair>, pair: &'a Pair) -> Option<&'
 fn noted<'a>(firsts: Firsts<'a>, pair: &'a Pair) -> Firsts<'a>
     requires pair { HasSoundList (datum_of (entry_view pair.now)) }
     requires order { IfSome firsts.order (λ p. HasSoundList (datum_of (entry_view p.now))) }
-    ensures id { option_map (λ p. entry_view p.now) result.id ≡ option_or (option_map (λ p. entry_view p.now) firsts.entry.id) (first (codes "id") (entry_view pair.now ∷ [])) }
-    ensures source { option_map (λ p. entry_view p.now) result.source ≡ option_or (option_map (λ p. entry_view p.now) firsts.entry.source) (first (codes "source") (entry_view pair.now ∷ [])) }
-    ensures target { option_map (λ p. entry_view p.now) result.target ≡ option_or (option_map (λ p. entry_view p.now) firsts.entry.target) (first (codes "target") (entry_view pair.now ∷ [])) }
-    ensures edge { option_map (λ p. entry_view p.now) result.edge ≡ option_or (option_map (λ p. entry_view p.now) firsts.entry.edge) (first (codes "edge") (entry_view pair.now ∷ [])) }
-    ensures side { option_map (λ p. entry_view p.now) result.side ≡ option_or (option_map (λ p. entry_view p.now) firsts.entry.side) (first (codes "side") (entry_view pair.now ∷ [])) }
-    ensures label { option_map (λ p. entry_view p.now) result.label ≡ option_or (option_map (λ p. entry_view p.now) firsts.entry.label) (first (codes "label") (entry_view pair.now ∷ [])) }
-    ensures order { option_map (λ p. entry_view p.now) result.order ≡ option_or (option_map (λ p. entry_view p.now) firsts.entry.order) (first (codes "order") (entry_view pair.now ∷ [])) }
+    ensures id { option_map (λ p. entry_view p.now) result.id ≡ option_or (option_map (λ p. entry_view p.now) firsts.entry.id) (first_with (codes "id") (entry_view pair.now ∷ [])) }
+    ensures source { option_map (λ p. entry_view p.now) result.source ≡ option_or (option_map (λ p. entry_view p.now) firsts.entry.source) (first_with (codes "source") (entry_view pair.now ∷ [])) }
+    ensures target { option_map (λ p. entry_view p.now) result.target ≡ option_or (option_map (λ p. entry_view p.now) firsts.entry.target) (first_with (codes "target") (entry_view pair.now ∷ [])) }
+    ensures edge { option_map (λ p. entry_view p.now) result.edge ≡ option_or (option_map (λ p. entry_view p.now) firsts.entry.edge) (first_with (codes "edge") (entry_view pair.now ∷ [])) }
+    ensures side { option_map (λ p. entry_view p.now) result.side ≡ option_or (option_map (λ p. entry_view p.now) firsts.entry.side) (first_with (codes "side") (entry_view pair.now ∷ [])) }
+    ensures label { option_map (λ p. entry_view p.now) result.label ≡ option_or (option_map (λ p. entry_view p.now) firsts.entry.label) (first_with (codes "label") (entry_view pair.now ∷ [])) }
+    ensures order { option_map (λ p. entry_view p.now) result.order ≡ option_or (option_map (λ p. entry_view p.now) firsts.entry.order) (first_with (codes "order") (entry_view pair.now ∷ [])) }
     ensures sound { IfSome result.order (λ p. HasSoundList (datum_of (entry_view p.now))) }
 {
     let mut firsts = firsts;
@@ -63,13 +63,13 @@ fn noted<'a>(firsts: Firsts<'a>, pair: &'a Pair) -> Firsts<'a>
 /// The first pair with each key.
 pub(crate) fn firsts_of<'a>(tree: &'a Tree) -> Firsts<'a>
     requires { IsSound (view tree.now) }
-    ensures id { option_map (λ p. entry_view p.now) result.id ≡ first (codes "id") (listed (view tree.now)) }
-    ensures source { option_map (λ p. entry_view p.now) result.source ≡ first (codes "source") (listed (view tree.now)) }
-    ensures target { option_map (λ p. entry_view p.now) result.target ≡ first (codes "target") (listed (view tree.now)) }
-    ensures edge { option_map (λ p. entry_view p.now) result.edge ≡ first (codes "edge") (listed (view tree.now)) }
-    ensures side { option_map (λ p. entry_view p.now) result.side ≡ first (codes "side") (listed (view tree.now)) }
-    ensures label { option_map (λ p. entry_view p.now) result.label ≡ first (codes "label") (listed (view tree.now)) }
-    ensures order { option_map (λ p. entry_view p.now) result.order ≡ first (codes "order") (listed (view tree.now)) }
+    ensures id { option_map (λ p. entry_view p.now) result.id ≡ first_with (codes "id") (listed (view tree.now)) }
+    ensures source { option_map (λ p. entry_view p.now) result.source ≡ first_with (codes "source") (listed (view tree.now)) }
+    ensures target { option_map (λ p. entry_view p.now) result.target ≡ first_with (codes "target") (listed (view tree.now)) }
+    ensures edge { option_map (λ p. entry_view p.now) result.edge ≡ first_with (codes "edge") (listed (view tree.now)) }
+    ensures side { option_map (λ p. entry_view p.now) result.side ≡ first_with (codes "side") (listed (view tree.now)) }
+    ensures label { option_map (λ p. entry_view p.now) result.label ≡ first_with (codes "label") (listed (view tree.now)) }
+    ensures order { option_map (λ p. entry_view p.now) result.order ≡ first_with (codes "order") (listed (view tree.now)) }
     ensures sound { IfSome result.order (λ p. HasSoundList (datum_of (entry_view p.now))) }
 {
     let mut firsts = Firsts {

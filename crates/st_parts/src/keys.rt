@@ -1,7 +1,7 @@
 //! The keys that are used. A new key is a row here, in `known_key` and in the tables of the specs.
 ghost use Rattle.gml_core.specs.Views.{entry_view};
 ghost use Rattle.st_parts.specs.Keys.{IsKnown, known};
-ghost use Rattle.st_parts.specs.Used.{key_of as spelled};
+ghost use Rattle.st_parts.specs.Used.{key_text};
 ghost use Rattle.std.specs.Prelude.{◌≡◌};
 
 use gml_core::Pair;
@@ -43,7 +43,7 @@ fn known_key(bytes: &[u8]) -> Option<Key>
 }
 
 fn spelled_key(pair: &Pair) -> Option<Key>
-    ensures { result ≡ known (spelled (entry_view pair.now)) }
+    ensures { result ≡ known (key_text (entry_view pair.now)) }
 {
     known_key(pair.key.bytes())
 }

@@ -5,7 +5,7 @@ ghost use Rattle.gml_core.specs.Views.{entry_view, view};
 ghost use Rattle.st_parts.specs.Keys.{IsKnown};
 ghost use Rattle.st_parts.specs.Kinds.{earlier, edge_wrong, graph_wrong, inside, names_wrong, node_wrong, part_wrong};
 ghost use Rattle.st_parts.specs.Parts.{edge_in, label_in, node_in, parts_in, parts_say, path_in};
-ghost use Rattle.st_parts.specs.Used.{HasSoundList, datum_of, each, first};
+ghost use Rattle.st_parts.specs.Used.{HasSoundList, datum_of, each, first_with};
 ghost use Rattle.std.specs.Option.{option_or};
 ghost use Rattle.std.specs.Prelude.{◌≡◌, [], ◌∷◌, ◌++◌, ◌<◌, ◌^◌, codes, length, None, option_map, IfOk, IfSome, OnOk};
 
@@ -158,7 +158,7 @@ fn or_outer<'a>(outer: Option<&'a Pair>, key: Option<Key>, pair: &'a Pair) -> Op
     requires known { IsKnown key (entry_view pair.now) }
     requires pair { HasSoundList (datum_of (entry_view pair.now)) }
     requires outer { IfSome outer (λ p. HasSoundList (datum_of (entry_view p.now))) }
-    ensures outer { option_map (λ p. entry_view p.now) result ≡ option_or (option_map (λ p. entry_view p.now) outer.entry) (first (codes "outer") (entry_view pair.now ∷ [])) }
+    ensures outer { option_map (λ p. entry_view p.now) result ≡ option_or (option_map (λ p. entry_view p.now) outer.entry) (first_with (codes "outer") (entry_view pair.now ∷ [])) }
     ensures sound { IfSome result (λ p. HasSoundList (datum_of (entry_view p.now))) }
 {
     match key {

@@ -3,7 +3,7 @@ ghost use Rattle.gml_core.specs.Sound.{IsSound};
 ghost use Rattle.gml_core.specs.Trees.{listed};
 ghost use Rattle.gml_core.specs.Views.{datum, entry_view, view};
 ghost use Rattle.st_parts.specs.Parts.{second};
-ghost use Rattle.st_parts.specs.Used.{HasSoundList, datum_of, first, has_key, int_in, int_of as first_int_of, list_in, place_of, str_in, str_of as first_str_of};
+ghost use Rattle.st_parts.specs.Used.{HasSoundList, datum_of, first_with, has_key, int_in, int_of as first_int_of, list_in, place_of, str_in, str_of as first_str_of};
 ghost use Rattle.std.specs.Prelude.{◌≡◌, ◌<◌, ◌+◌, ◌∷◌, length, drop, option_map, option_copied, IfSome};
 
 use gml_core::{Pair, Tree, Value};
@@ -107,7 +107,7 @@ pub(crate) fn str_of_first<'a>(pair: Option<&'a Pair>) -> Option<&'a Text>
 /// The first pair of a list with a key; `None` where there is none. Cost: O(pairs of the list).
 pub fn first_pair<'a>(tree: &'a Tree, key: &[u8]) -> Option<&'a Pair>
     requires { IsSound (view tree.now) }
-    ensures pair { option_map (λ p. entry_view p.now) result ≡ first key.now (listed (view tree.now)) }
+    ensures pair { option_map (λ p. entry_view p.now) result ≡ first_with key.now (listed (view tree.now)) }
     ensures sound { IfSome result (λ p. HasSoundList (datum_of (entry_view p.now))) }
 {
     for i in 0..tree.len() {

@@ -20,7 +20,7 @@ use Rattle.st_sides.specs.Sides.{SidesValue, edge_count, edge_tail, edge_head, f
 use Rattle.st_picture.specs.Bars.{bar, bar_start, upright, bars}
 use Rattle.st_picture.specs.Drawn.{IsDrawn, IsFitting, BarsLaw}
 use Rattle.st_picture.specs.Growing.{GrowsUp, GrowsRight, HasLines, InColumns, HasPoint, from_column, to_column}
-use Rattle.st_picture.specs.Items.{at, line}
+use Rattle.st_picture.specs.Items.{grid_point, line}
 use Rattle.st_picture.specs.Naming.{AreNames, vertex_name, edge_name}
 use Rattle.st_picture.specs.Order.{ShowsOrder}
 use Rattle.st_picture.proofs.FigureLemmas.{figures_law}
@@ -34,7 +34,7 @@ use Rattle.st_picture.proofs.SpanLemmas.{wide, in_columns, low_height, low_colum
 spot : (lo i k : ℕ) → (i + k) * (lo + i) ≡ k * lo + i * (lo + i + k)
 spot lo i k = omega arith
 
-pub on_level : (lo hi x y : ℕ) → lo ≤ x → x ≤ hi → Meet (segment (at x y) (at x y)) (segment (at lo y) (at hi y))
+pub on_level : (lo hi x y : ℕ) → lo ≤ x → x ≤ hi → Meet (segment (grid_point x y) (grid_point x y)) (segment (grid_point lo y) (grid_point hi y))
 on_level lo hi x y a b = elim (cases_eq lo hi) [
   | inl q ↦ (
     p1,
@@ -101,7 +101,7 @@ module _ (g : SidesValue) (S : IsSides g) (y c k : ℕ → ℕ) (up : GrowsUp g 
 
   -- the figure of an object
   abbrev stretch : Object → Segment
-  stretch o = segment (at (lo o) (y (bottom g o))) (at (hi o) (y (top g o)))
+  stretch o = segment (grid_point (lo o) (y (bottom g o))) (grid_point (hi o) (y (top g o)))
 
   spans : (o : Object) → IsObject g o → lo o ≤ hi o
   spans (vertex v) i = let h : c (left_of g v) < c (right_of g v) = wide g S c rightward (vertex v) i in omega arith
@@ -139,7 +139,7 @@ module _ (g : SidesValue) (S : IsSides g) (y c k : ℕ → ℕ) (up : GrowsUp g 
   points = upright g y k
 
   of_line : (e : ℕ) (s : Segment) → IsSegmentOf (points e) s → s ≡ stretch (edge e)
-  of_line e s Q = of_two (at (k e) (y (edge_tail g e))) (at (k e) (y (edge_head g e))) s Q
+  of_line e s Q = of_two (grid_point (k e) (y (edge_tail g e))) (grid_point (k e) (y (edge_head g e))) s Q
 
   apart : (u v : ℕ) → u < g.vertices → v < g.vertices → u ≢ v → Meet (stretch (vertex u)) (stretch (vertex v)) → ⊥
   apart u v i j n M =
@@ -158,8 +158,8 @@ module _ (g : SidesValue) (S : IsSides g) (y c k : ℕ → ℕ) (up : GrowsUp g 
       let x : L.x ≡ p.q * k e = at_same p.q (k e) L.x L.i L.k L.at_x in
       let h : M.y ≡ p.q * y v = at_same p.q (y v) M.y M.i M.k M.at_y in
       elim (meets (edge e) (vertex v) p a i (λ z. cc z) T'.divides L M) [
-        | inl q ↦ record { v = at (k e) (y (edge_head g e)); end = inr (refl, q); is = is_at p L.x M.y (k e) (y (edge_head g e)) L.x_is M.y_is x (h ∙ ap (λ z. p.q * y z) (sym q)) }
-        | inr q ↦ record { v = at (k e) (y (edge_tail g e)); end = inl (refl, sym q); is = is_at p L.x M.y (k e) (y (edge_tail g e)) L.x_is M.y_is x (h ∙ ap (λ z. p.q * y z) q) }
+        | inl q ↦ record { v = grid_point (k e) (y (edge_head g e)); end = inr (refl, q); is = is_at p L.x M.y (k e) (y (edge_head g e)) L.x_is M.y_is x (h ∙ ap (λ z. p.q * y z) (sym q)) }
+        | inr q ↦ record { v = grid_point (k e) (y (edge_tail g e)); end = inl (refl, sym q); is = is_at p L.x M.y (k e) (y (edge_tail g e)) L.x_is M.y_is x (h ∙ ap (λ z. p.q * y z) q) }
       ]
 
   some_point : (x z : Point) → Some x ≡ Some z → x ≡ z
@@ -171,20 +171,20 @@ module _ (g : SidesValue) (S : IsSides g) (y c k : ℕ → ℕ) (up : GrowsUp g 
       let h : k e < c (face_right g e) = K.before_right e a in
       let l : c (left_of g (edge_tail g e)) ≤ c (face_left g e) = left_at_tail g S c rightward e a in
       let r : c (face_right g e) ≤ c (right_of g (edge_tail g e)) = right_at_tail g S c rightward e a in
-      subst (λ z. Meet (segment z z) (stretch (vertex m))) (some_point (at (k e) (y (edge_tail g e))) v q)
-      (subst (λ z. Meet (segment (at (k e) (y (edge_tail g e))) (at (k e) (y (edge_tail g e)))) (stretch (vertex z))) t
+      subst (λ z. Meet (segment z z) (stretch (vertex m))) (some_point (grid_point (k e) (y (edge_tail g e))) v q)
+      (subst (λ z. Meet (segment (grid_point (k e) (y (edge_tail g e))) (grid_point (k e) (y (edge_tail g e)))) (stretch (vertex z))) t
       (on_level (c (left_of g (edge_tail g e))) (c (right_of g (edge_tail g e)) - 1) (k e) (y (edge_tail g e)) (omega arith) (omega arith)))
   ends e m v a i (inr (q, t)) =
       let f : c (face_left g e) ≤ k e = K.after_left e a in
       let h : k e < c (face_right g e) = K.before_right e a in
       let l : c (left_of g (edge_head g e)) ≤ c (face_left g e) = left_at_head g S c rightward e a in
       let r : c (face_right g e) ≤ c (right_of g (edge_head g e)) = right_at_head g S c rightward e a in
-      subst (λ z. Meet (segment z z) (stretch (vertex m))) (some_point (at (k e) (y (edge_head g e))) v q)
-      (subst (λ z. Meet (segment (at (k e) (y (edge_head g e))) (at (k e) (y (edge_head g e)))) (stretch (vertex z))) t
+      subst (λ z. Meet (segment z z) (stretch (vertex m))) (some_point (grid_point (k e) (y (edge_head g e))) v q)
+      (subst (λ z. Meet (segment (grid_point (k e) (y (edge_head g e))) (grid_point (k e) (y (edge_head g e)))) (stretch (vertex z))) t
       (on_level (c (left_of g (edge_head g e))) (c (right_of g (edge_head g e)) - 1) (k e) (y (edge_head g e)) (omega arith) (omega arith)))
 
   -- the upper end of e is the lower end of f
-  joined : (e f : ℕ) (p : Ratio) → e < edge_count g → f < edge_count g → 1 ≤ p.q → (L : Lies (k e) (y (edge_tail g e)) (k e) (y (edge_head g e)) p) (M : Lies (k f) (y (edge_tail g f)) (k f) (y (edge_head g f)) p) → edge_head g e ≡ edge_tail g f → (at (k e) (y (edge_head g e)) ≡ at (k f) (y (edge_tail g f))) × IsAt p (at (k e) (y (edge_head g e)))
+  joined : (e f : ℕ) (p : Ratio) → e < edge_count g → f < edge_count g → 1 ≤ p.q → (L : Lies (k e) (y (edge_tail g e)) (k e) (y (edge_head g e)) p) (M : Lies (k f) (y (edge_tail g f)) (k f) (y (edge_head g f)) p) → edge_head g e ≡ edge_tail g f → (grid_point (k e) (y (edge_head g e)) ≡ grid_point (k f) (y (edge_tail g f))) × IsAt p (grid_point (k e) (y (edge_head g e)))
   joined e f p a b l L M q =
       let ex : L.x ≡ M.x = pos_same (sym L.x_is ∙ M.x_is) in
       let ey : L.y ≡ M.y = pos_same (sym L.y_is ∙ M.y_is) in
@@ -197,7 +197,7 @@ module _ (g : SidesValue) (S : IsSides g) (y c k : ℕ → ℕ) (up : GrowsUp g 
       let A = (at_bounds p.q (y (edge_tail g e)) (y (edge_head g e)) L.y L.i L.k 0 (y (edge_head g e)) L.at_y (omega arith) (omega arith) (omega arith) (omega arith)).1 in
       let B = (at_bounds p.q (y (edge_tail g f)) (y (edge_head g f)) M.y M.i M.k (y (edge_tail g f)) (y (edge_head g f)) M.at_y (omega arith) (omega arith) (omega arith) (omega arith)).0 in
       let B' : p.q * y (edge_head g e) ≤ M.y = subst (λ z. p.q * z ≤ M.y) (sym h) B in
-      (ap (λ z. at z (y (edge_head g e))) ke ∙ ap (λ z. at (k f) z) h, is_at p L.x L.y (k e) (y (edge_head g e)) L.x_is L.y_is xe (omega arith))
+      (ap (λ z. grid_point z (y (edge_head g e))) ke ∙ ap (λ z. grid_point (k f) z) h, is_at p L.x L.y (k e) (y (edge_head g e)) L.x_is L.y_is xe (omega arith))
 
   lines : (e f : ℕ) (s t : Segment) (p : Ratio) → e < edge_count g → f < edge_count g → e ≢ f → IsSegmentOf (points e) s → IsSegmentOf (points f) t → Share s t p → JoinAt g points e f p
   lines e f s t p a b n Q R T =
@@ -205,8 +205,8 @@ module _ (g : SidesValue) (S : IsSides g) (y c k : ℕ → ℕ) (up : GrowsUp g 
       let L = lies (k e) (y (edge_tail g e)) (k e) (y (edge_head g e)) p T'.first in
       let M = lies (k f) (y (edge_tail g f)) (k f) (y (edge_head g f)) p T'.second in
       elim (meets (edge e) (edge f) p a b (λ z. n (cc z)) T'.divides L M) [
-        | inl q ↦ (let J = joined e f p a b T'.divides L M q in record { m = edge_head g e; v = at (k e) (y (edge_head g e)); first = inr (refl, refl); second = inl (ap Some (sym J.0), sym q); is = J.1 })
-        | inr q ↦ (let J = joined f e p b a T'.divides M L q in record { m = edge_head g f; v = at (k f) (y (edge_head g f)); first = inl (ap Some (sym J.0), sym q); second = inr (refl, refl); is = J.1 })
+        | inl q ↦ (let J = joined e f p a b T'.divides L M q in record { m = edge_head g e; v = grid_point (k e) (y (edge_head g e)); first = inr (refl, refl); second = inl (ap Some (sym J.0), sym q); is = J.1 })
+        | inr q ↦ (let J = joined f e p b a T'.divides M L q in record { m = edge_head g f; v = grid_point (k f) (y (edge_head g f)); first = inl (ap Some (sym J.0), sym q); second = inr (refl, refl); is = J.1 })
       ]
 
   neat : (form : Form) → form ≢ Dominance → IsNeat g form (λ v. stretch (vertex v)) points
@@ -223,7 +223,7 @@ module _ (g : SidesValue) (S : IsSides g) (y c k : ℕ → ℕ) (up : GrowsUp g 
     picture = bars g N form y c k
 
     abbrev corner : Point
-    corner = at (c g.t_star - 1) (y g.sink)
+    corner = grid_point (c g.t_star - 1) (y g.sink)
 
     figure_at : (v : ℕ) → v < g.vertices → slice_get picture.items v ≡ Some (bar g N y c v)
     figure_at v i = vertex_is g N form corner (bar g N y c) points (bar_start g y c) v i

@@ -8,8 +8,8 @@ use Rattle.st_ids.specs.Walks.{Arcs, Walk, stay, step, Reaches}
 use Rattle.st_sides.specs.Sides.{SidesValue, edge_count, edge_tail, edge_head, face_left, face_right, low, high, primal, dual, IsSides}
 use Rattle.st_sides.specs.Objects.{Object, edge, IsObject, bottom, top, left, right, Before, LeftOf, before, after, leftward, rightward}
 use Rattle.st_picture.specs.Growing.{GrowsUp, GrowsRight, InColumns, HasPoint, IsInBox, FiguresLaw}
-use Rattle.st_ids.proofs.WalkLemmas.{walk_from, walk_to, on_walk}
-use Rattle.st_sides.proofs.TotalLemmas.{compared}
+use Rattle.st_ids.proofs.Public.{walk_from, walk_to, on_walk}
+use Rattle.st_sides.proofs.Public.{compared}
 
 -- numbers that grow along the arcs
 walk_grows : (D : Arcs) (h : ℕ → ℕ) → ((e : ℕ) → e < D.count → h (D.from e) < h (D.to e)) → {u v : ℕ} {es : List ℕ} → Walk D u es v → (u ≡ v) ⊎ (h u < h v)

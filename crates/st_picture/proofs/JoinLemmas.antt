@@ -16,13 +16,13 @@ use Rattle.st_shape.specs.declared.point.Point.{Point}
 use Rattle.st_shape.specs.Rules.{Drawing}
 use Rattle.st_sides.specs.Objects.{vertex}
 use Rattle.st_sides.specs.Sides.{SidesValue, edge_count, edge_tail, edge_head, left_of, right_of, IsSides}
-use Rattle.st_sides.proofs.ExclusiveLemmas.{left_below}
+use Rattle.st_sides.proofs.Public.{left_below}
 use Rattle.st_picture.specs.Bars.{bar, bar_start, bars, upright}
-use Rattle.st_picture.specs.Items.{HasFigures, IsFigure, IsFigureAt, at, drawing, each, labels, line, place_at, place_of}
+use Rattle.st_picture.specs.Items.{HasFigures, IsFigure, IsFigureAt, grid_point, drawing, items_by, labels, line, place_at, item_place}
 use Rattle.st_picture.specs.Naming.{edge_name, vertex_name}
 use Rattle.st_picture.proofs.LabelLemmas.{place_is}
 use Rattle.st_picture.proofs.PlaceLemmas.{each_same, first_place, labels_same}
-use Rattle.st_picture.proofs.PushLemmas.{length-each}
+use Rattle.st_picture.proofs.PushLemmas.{length-items_by}
 use Rattle.st_picture.proofs.SpanLemmas.{right_in, sink_in}
 
 module _ (g : SidesValue) (N : Names) (form : Form) (frame : Point) (figure : ℕ → Item) (points : ℕ → List Point) where
@@ -30,48 +30,48 @@ module _ (g : SidesValue) (N : Names) (form : Form) (frame : Point) (figure : �
   start = record { form = form; frame = frame; items = [] }
 
   abbrev pub figures : Drawing
-  figures = record start { items = each figure g.vertices }
+  figures = record start { items = items_by figure g.vertices }
 
   abbrev pub second : Drawing
-  second = record start { items = each figure g.vertices ++ each (line g N points) (edge_count g) }
+  second = record start { items = items_by figure g.vertices ++ items_by (line g N points) (edge_count g) }
 
-  pub first_is : (a b : Drawing) → a ≡ start → b ≡ record a { items = a.items ++ each figure g.vertices } → b ≡ figures
-  first_is a b p q = q ∙ ap (λ z. let t : Drawing = record z { items = z.items ++ each figure g.vertices } in t) p
+  pub first_is : (a b : Drawing) → a ≡ start → b ≡ record a { items = a.items ++ items_by figure g.vertices } → b ≡ figures
+  first_is a b p q = q ∙ ap (λ z. let t : Drawing = record z { items = z.items ++ items_by figure g.vertices } in t) p
 
-  pub second_is : (a b : Drawing) → a ≡ figures → b ≡ record a { items = a.items ++ each (line g N points) (edge_count g) } → b ≡ second
-  second_is a b p q = q ∙ ap (λ z. let t : Drawing = record z { items = z.items ++ each (line g N points) (edge_count g) } in t) p
+  pub second_is : (a b : Drawing) → a ≡ figures → b ≡ record a { items = a.items ++ items_by (line g N points) (edge_count g) } → b ≡ second
+  second_is a b p q = q ∙ ap (λ z. let t : Drawing = record z { items = z.items ++ items_by (line g N points) (edge_count g) } in t) p
 
   -- the same where code counts vertices and edges
-  pub first_by : (a b : Drawing) (n : ℕ) → a ≡ start → n ≡ g.vertices → b ≡ record a { items = a.items ++ each figure n } → b ≡ figures
-  first_by a b n p m q = first_is a b p (q ∙ ap (λ z. let t : Drawing = record a { items = a.items ++ each figure z } in t) m)
+  pub first_by : (a b : Drawing) (n : ℕ) → a ≡ start → n ≡ g.vertices → b ≡ record a { items = a.items ++ items_by figure n } → b ≡ figures
+  first_by a b n p m q = first_is a b p (q ∙ ap (λ z. let t : Drawing = record a { items = a.items ++ items_by figure z } in t) m)
 
-  pub second_by : (a b : Drawing) (n : ℕ) → a ≡ figures → n ≡ edge_count g → b ≡ record a { items = a.items ++ each (line g N points) n } → b ≡ second
-  second_by a b n p m q = second_is a b p (q ∙ ap (λ z. let t : Drawing = record a { items = a.items ++ each (line g N points) z } in t) m)
+  pub second_by : (a b : Drawing) (n : ℕ) → a ≡ figures → n ≡ edge_count g → b ≡ record a { items = a.items ++ items_by (line g N points) n } → b ≡ second
+  second_by a b n p m q = second_is a b p (q ∙ ap (λ z. let t : Drawing = record a { items = a.items ++ items_by (line g N points) z } in t) m)
 
   pub count_first : (d : Drawing) → d ≡ figures → length d.items ≡ g.vertices
-  count_first d p = ap (λ z. length z.items) p ∙ length-each figure g.vertices
+  count_first d p = ap (λ z. length z.items) p ∙ length-items_by figure g.vertices
 
   pub count_second : (d : Drawing) → d ≡ second → length d.items ≡ g.vertices + edge_count g
   count_second d p =
-      let q : length d.items ≡ length (each figure g.vertices ++ each (line g N points) (edge_count g)) = ap (λ z. length z.items) p in
-      let l = length-append (each figure g.vertices) (each (line g N points) (edge_count g)) in
-      let a = length-each figure g.vertices in
-      let b = length-each (line g N points) (edge_count g) in
+      let q : length d.items ≡ length (items_by figure g.vertices ++ items_by (line g N points) (edge_count g)) = ap (λ z. length z.items) p in
+      let l = length-append (items_by figure g.vertices) (items_by (line g N points) (edge_count g)) in
+      let a = length-items_by figure g.vertices in
+      let b = length-items_by (line g N points) (edge_count g) in
       omega arith
 
   figure_there : (v : ℕ) → v < g.vertices → slice_get second.items v ≡ Some (figure v)
-  figure_there v l = first_place figure g.vertices (each (line g N points) (edge_count g)) v l
+  figure_there v l = first_place figure g.vertices (items_by (line g N points) (edge_count g)) v l
 
   pub figures_first : ((v : ℕ) → v < g.vertices → IsFigure (figure v)) → (d : Drawing) (n : ℕ) → d ≡ second → n ≡ g.vertices → HasFigures d.items n
   figures_first kind d n p q v l = subst (λ z. IsFigureAt z.items v) (sym p) (record { figure = figure v; is = figure_there v (omega arith); kind = kind v (omega arith) })
 
-  pub drawing_is : (place : ℕ → Point) → ((v : ℕ) → v < g.vertices → place_of (figure v) ≡ place v) → (d e : Drawing) (n : ℕ) → d ≡ second → n ≡ g.vertices
+  pub drawing_is : (place : ℕ → Point) → ((v : ℕ) → v < g.vertices → item_place (figure v) ≡ place v) → (d e : Drawing) (n : ℕ) → d ≡ second → n ≡ g.vertices
       → e ≡ record d { items = d.items ++ labels N (place_at d.items) n } → e ≡ drawing g N form frame figure points place
   drawing_is place places d e n p q r =
       r ∙ ap (λ z. let t : Drawing = record z { items = z.items ++ labels N (place_at z.items) n } in t) p
       ∙ ap (λ z. let t : Drawing = record second { items = second.items ++ labels N (place_at second.items) z } in t) q
       ∙ ap (λ z. let t : Drawing = record second { items = second.items ++ z } in t) (labels_same N (place_at second.items) place g.vertices (λ v l. place_is second.items v (figure v) (figure_there v l) ∙ places v l))
-      ∙ ap (λ z. let t : Drawing = record second { items = z } in t) (append_assoc (each figure g.vertices) (each (line g N points) (edge_count g)) (labels N place g.vertices))
+      ∙ ap (λ z. let t : Drawing = record second { items = z } in t) (append_assoc (items_by figure g.vertices) (items_by (line g N points) (edge_count g)) (labels N place g.vertices))
 
 -- ---- pictures that agree
 line_same : (g : SidesValue) (N : Names) (ps qs : ℕ → List Point) (e : ℕ) → ps e ≡ qs e → line g N ps e ≡ line g N qs e
@@ -82,9 +82,9 @@ pub drawing_same : (g : SidesValue) (N : Names) (form : Form) (a b : Point) (f h
     → drawing g N form a f ps p ≡ drawing g N form b h qs q
 drawing_same g N form a b f h ps qs p q r s t u =
     ap (λ z. drawing g N form z f ps p) r
-    ∙ ap (λ z. let d : Drawing = record { form = form; frame = b; items = z ++ (each (line g N ps) (edge_count g) ++ labels N p g.vertices) } in d) (each_same f h g.vertices s)
-    ∙ ap (λ z. let d : Drawing = record { form = form; frame = b; items = each h g.vertices ++ (z ++ labels N p g.vertices) } in d) (each_same (line g N ps) (line g N qs) (edge_count g) (λ e l. line_same g N ps qs e (t e l)))
-    ∙ ap (λ z. let d : Drawing = record { form = form; frame = b; items = each h g.vertices ++ (each (line g N qs) (edge_count g) ++ z) } in d) (labels_same N p q g.vertices u)
+    ∙ ap (λ z. let d : Drawing = record { form = form; frame = b; items = z ++ (items_by (line g N ps) (edge_count g) ++ labels N p g.vertices) } in d) (each_same f h g.vertices s)
+    ∙ ap (λ z. let d : Drawing = record { form = form; frame = b; items = items_by h g.vertices ++ (z ++ labels N p g.vertices) } in d) (each_same (line g N ps) (line g N qs) (edge_count g) (λ e l. line_same g N ps qs e (t e l)))
+    ∙ ap (λ z. let d : Drawing = record { form = form; frame = b; items = items_by h g.vertices ++ (items_by (line g N qs) (edge_count g) ++ z) } in d) (labels_same N p q g.vertices u)
 
 module _ (g : SidesValue) (S : IsSides g) (N : Names) (form : Form) (y c k y' c' k' : ℕ → ℕ)
     (yy : (v : ℕ) → v < g.vertices → y v ≡ y' v) (cc' : (f : ℕ) → f ≤ g.t_star → c f ≡ c' f) (kk : (e : ℕ) → e < edge_count g → k e ≡ k' e) where
@@ -95,14 +95,14 @@ module _ (g : SidesValue) (S : IsSides g) (N : Names) (form : Form) (y c k y' c'
   at_right v l = cc' (right_of g v) (right_in g S v l)
 
   pub bars_same : bars g N form y c k ≡ bars g N form y' c' k'
-  bars_same = drawing_same g N form (at (c g.t_star - 1) (y g.sink)) (at (c' g.t_star - 1) (y' g.sink)) (bar g N y c) (bar g N y' c') (upright g y k) (upright g y' k') (bar_start g y c) (bar_start g y' c')
-      (ap (λ z. at (z - 1) (y g.sink)) (cc' g.t_star (omega arith)) ∙ ap (at (c' g.t_star - 1)) (yy g.sink (sink_in g S)))
+  bars_same = drawing_same g N form (grid_point (c g.t_star - 1) (y g.sink)) (grid_point (c' g.t_star - 1) (y' g.sink)) (bar g N y c) (bar g N y' c') (upright g y k) (upright g y' k') (bar_start g y c) (bar_start g y' c')
+      (ap (λ z. grid_point (z - 1) (y g.sink)) (cc' g.t_star (omega arith)) ∙ ap (grid_point (c' g.t_star - 1)) (yy g.sink (sink_in g S)))
       (λ v l.
       ap (λ z. Bar (vertex_name N v) (pos z) (pos (c (left_of g v))) (pos (c (right_of g v) - 1))) (yy v l)
       ∙ ap (λ z. Bar (vertex_name N v) (pos (y' v)) (pos z) (pos (c (right_of g v) - 1))) (at_left v l)
       ∙ ap (λ z. Bar (vertex_name N v) (pos (y' v)) (pos (c' (left_of g v))) (pos (z - 1))) (at_right v l))
       (λ e l.
-      ap (λ z. at z (y (edge_tail g e)) ∷ at z (y (edge_head g e)) ∷ []) (kk e l)
-      ∙ ap (λ z. at (k' e) z ∷ at (k' e) (y (edge_head g e)) ∷ []) (yy (edge_tail g e) (S.tail_in e l))
-      ∙ ap (λ z. at (k' e) (y' (edge_tail g e)) ∷ at (k' e) z ∷ []) (yy (edge_head g e) (S.head_in e l)))
-      (λ v l. ap (λ z. at z (y v)) (at_left v l) ∙ ap (at (c' (left_of g v))) (yy v l))
+      ap (λ z. grid_point z (y (edge_tail g e)) ∷ grid_point z (y (edge_head g e)) ∷ []) (kk e l)
+      ∙ ap (λ z. grid_point (k' e) z ∷ grid_point (k' e) (y (edge_head g e)) ∷ []) (yy (edge_tail g e) (S.tail_in e l))
+      ∙ ap (λ z. grid_point (k' e) (y' (edge_tail g e)) ∷ grid_point (k' e) z ∷ []) (yy (edge_head g e) (S.head_in e l)))
+      (λ v l. ap (λ z. grid_point z (y v)) (at_left v l) ∙ ap (grid_point (c' (left_of g v))) (yy v l))

@@ -12,15 +12,15 @@ use Rattle.st_shape.specs.declared.item.Item.TheVariants.{Dot, Bar, Line, Rect, 
 use Rattle.st_shape.specs.declared.point.Point.{Point}
 use Rattle.st_shape.specs.Inside.{IsInside}
 use Rattle.st_shape.specs.Rules.{Drawing, FitsFrame, IsItem, IsPicture}
-use Rattle.st_picture.specs.Items.{IsFigure, IsFigureAt, label_of, labels, place_at, place_in, place_of}
+use Rattle.st_picture.specs.Items.{IsFigure, IsFigureAt, label_items, labels, place_at, place_in, item_place}
 use Rattle.st_picture.specs.Naming.{label_text, vertex_name}
 use Rattle.st_picture.proofs.PlaceLemmas.{all_at}
 
-pub place_is : (items : List Item) (v : ℕ) (x : Item) → slice_get items v ≡ Some x → place_at items v ≡ place_of x
+pub place_is : (items : List Item) (v : ℕ) (x : Item) → slice_get items v ≡ Some x → place_at items v ≡ item_place x
 unfolding place_at
 place_is items v x q = ap place_in q
 
-fits_place : (frame : Point) (x : Item) → IsFigure x → FitsFrame frame x → IsInside frame (place_of x)
+fits_place : (frame : Point) (x : Item) → IsFigure x → FitsFrame frame x → IsInside frame (item_place x)
 fits_place frame (Dot name p) k h = h
 fits_place frame (Bar name y from to) k h = h.0
 fits_place frame (Line name tail head points) k h = absurd k
@@ -39,11 +39,11 @@ pub name_is : (N : Names) (v : ℕ) (n : ℤ) → slice_get N.vertex v ≡ Some 
 unfolding vertex_name
 name_is N v n q = get_or_from_slice_get N.vertex v n (pos 0) q
 
-pub no_label : (items : List Item) (n : ℤ) (p : Point) (t : Option (List ℕ)) → t ≡ None → items ++ label_of n p t ≡ items
-no_label items n p t q = ap (λ z. items ++ label_of n p z) q ∙ append-nil items
+pub no_label : (items : List Item) (n : ℤ) (p : Point) (t : Option (List ℕ)) → t ≡ None → items ++ label_items n p t ≡ items
+no_label items n p t q = ap (λ z. items ++ label_items n p z) q ∙ append-nil items
 
-pub one_label : (items : List Item) (n m : ℤ) (p r : Point) (t : Option (List ℕ)) (text : List ℕ) → n ≡ m → p ≡ r → t ≡ Some text → items ++ Label m r text ∷ [] ≡ items ++ label_of n p t
-one_label items n m p r t text a b q = sym (ap (λ z. items ++ label_of n p z) q ∙ ap (λ z. items ++ Label z p text ∷ []) a ∙ ap (λ z. items ++ Label m z text ∷ []) b)
+pub one_label : (items : List Item) (n m : ℤ) (p r : Point) (t : Option (List ℕ)) (text : List ℕ) → n ≡ m → p ≡ r → t ≡ Some text → items ++ Label m r text ∷ [] ≡ items ++ label_items n p t
+one_label items n m p r t text a b q = sym (ap (λ z. items ++ label_items n p z) q ∙ ap (λ z. items ++ Label z p text ∷ []) a ∙ ap (λ z. items ++ Label m z text ∷ []) b)
 
 read_left : (xs ys : List Item) (v : ℕ) → v < length xs → slice_get (xs ++ ys) v ≡ slice_get xs v
 read_left [] ys v l = absurd (omega arith)
@@ -63,25 +63,25 @@ read_is items v x y r q = sym (get_or_from_slice_get items v x y q) ∙ sym r
 
 -- one label more
 pub labels_step : (d : Drawing) (N : Names) (v w : ℕ) (d' e : Drawing) → w ≡ suc v → IsFigureAt d.items v → d' ≡ record d { items = d.items ++ labels N (place_at d.items) v } →
-    e ≡ record d' { items = d'.items ++ label_of (vertex_name N v) (place_at d'.items v) (label_text N v) } →
+    e ≡ record d' { items = d'.items ++ label_items (vertex_name N v) (place_at d'.items v) (label_text N v) } →
     e ≡ record d { items = d.items ++ labels N (place_at d.items) w }
 labels_step d N v w d' e s F p q =
-    q ∙ ap (λ z. let x : Drawing = record z { items = z.items ++ label_of (vertex_name N v) (place_at z.items v) (label_text N v) } in x) p
-    ∙ ap (λ z. let x : Drawing = record d { items = (d.items ++ labels N (place_at d.items) v) ++ label_of (vertex_name N v) z (label_text N v) } in x) (place_kept d.items (labels N (place_at d.items) v) v F)
-    ∙ ap (λ z. let x : Drawing = record d { items = z } in x) (append_assoc d.items (labels N (place_at d.items) v) (label_of (vertex_name N v) (place_at d.items v) (label_text N v)))
+    q ∙ ap (λ z. let x : Drawing = record z { items = z.items ++ label_items (vertex_name N v) (place_at z.items v) (label_text N v) } in x) p
+    ∙ ap (λ z. let x : Drawing = record d { items = (d.items ++ labels N (place_at d.items) v) ++ label_items (vertex_name N v) z (label_text N v) } in x) (place_kept d.items (labels N (place_at d.items) v) v F)
+    ∙ ap (λ z. let x : Drawing = record d { items = z } in x) (append_assoc d.items (labels N (place_at d.items) v) (label_items (vertex_name N v) (place_at d.items v) (label_text N v)))
     ∙ ap (λ z. let x : Drawing = record d { items = d.items ++ labels N (place_at d.items) z } in x) (sym s)
 
 -- a label is one item at most
-pub length-label_of : (n : ℤ) (p : Point) (t : Option (List ℕ)) → length (label_of n p t) ≤ 1
-length-label_of n p None = omega arith
-length-label_of n p (Some text) = omega arith
+pub length-label_items : (n : ℤ) (p : Point) (t : Option (List ℕ)) → length (label_items n p t) ≤ 1
+length-label_items n p None = omega arith
+length-label_items n p (Some text) = omega arith
 
 pub length-labels : (N : Names) (place : ℕ → Point) (n : ℕ) → length (labels N place n) ≤ n
 length-labels N place zero = omega arith
 length-labels N place (suc n) =
     let h : length (labels N place n) ≤ n = length-labels N place n in
-    let k : length (label_of (vertex_name N n) (place n) (label_text N n)) ≤ 1 = length-label_of (vertex_name N n) (place n) (label_text N n) in
-    let l = length-append (labels N place n) (label_of (vertex_name N n) (place n) (label_text N n)) in
+    let k : length (label_items (vertex_name N n) (place n) (label_text N n)) ≤ 1 = length-label_items (vertex_name N n) (place n) (label_text N n) in
+    let l = length-append (labels N place n) (label_items (vertex_name N n) (place n) (label_text N n)) in
     omega arith
 
 pub items_few : (d : Drawing) (N : Names) (v : ℕ) (d' : Drawing) → d' ≡ record d { items = d.items ++ labels N (place_at d.items) v } → length d'.items ≤ length d.items + v

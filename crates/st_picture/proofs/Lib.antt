@@ -1,13 +1,14 @@
-pub mod BarLemmas
-pub mod ExampleNames
-pub mod FigureLemmas
-pub mod JoinLemmas
-pub mod LabelLemmas
-pub mod NameLemmas
-pub mod NaturalLemmas
-pub mod NeatLemmas
-pub mod PlaceLemmas
-pub mod PushLemmas
-pub mod SegmentLemmas
-pub mod SpanLemmas
-pub mod TableLemmas
+mod BarLemmas
+mod ExampleNames
+mod FigureLemmas
+mod JoinLemmas
+mod LabelLemmas
+mod NameLemmas
+mod NaturalLemmas
+mod NeatLemmas
+mod PlaceLemmas
+mod PushLemmas
+mod SegmentLemmas
+mod SpanLemmas
+mod TableLemmas
+pub mod Public

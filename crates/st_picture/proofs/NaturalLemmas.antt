@@ -9,7 +9,7 @@ use Rattle.st_shape.specs.declared.point.Point.{Point}
 use Rattle.st_shape.specs.declared.point.Segment.{Segment}
 use Rattle.st_shape.specs.Inside.{IsInside}
 use Rattle.st_shape.specs.Meeting.{Ratio, LiesOn, IsAt}
-use Rattle.st_picture.specs.Items.{at}
+use Rattle.st_picture.specs.Items.{grid_point}
 
 -- the segment from a to b
 abbrev pub segment : Point → Point → Segment
@@ -29,7 +29,7 @@ pos_less k l h = omega (arith, ints)
 pub pos_most : (k l : ℕ) → k ≤ l → pos k ≤ℤ pos l
 pos_most k l h = omega (arith, ints)
 
-pub inside : (a b x y : ℕ) → x ≤ a → y ≤ b → IsInside (at a b) (at x y)
+pub inside : (a b x y : ℕ) → x ≤ a → y ≤ b → IsInside (grid_point a b) (grid_point x y)
 inside a b x y h k = record { left = pos_most 0 x (omega arith); right = pos_most x a h; low = pos_most 0 y (omega arith); high = pos_most y b k }
 
 -- (u₁ - d₁) * (u₂ - d₂), where the factors are b - a and d - c
@@ -75,7 +75,7 @@ pub record Lies (ax ay bx by : ℕ) (p : Ratio) : Type 0 where
   pub at_x : IsMean p.q ax bx x i k
   pub at_y : IsMean p.q ay by y i k
 
-pub lies : (ax ay bx by : ℕ) (p : Ratio) → LiesOn (segment (at ax ay) (at bx by)) p → Lies ax ay bx by p
+pub lies : (ax ay bx by : ℕ) (p : Ratio) → LiesOn (segment (grid_point ax ay) (grid_point bx by)) p → Lies ax ay bx by p
 lies ax ay bx by p L =
     let w : L.i ≤ p.q = L.within in
     let k = p.q - L.i in
@@ -90,7 +90,7 @@ lies ax ay bx by p L =
       at_y = record { parts = omega arith; is = refl };
     }
 
-pub lies_on : (ax ay bx by : ℕ) (p : Ratio) → Lies ax ay bx by p → LiesOn (segment (at ax ay) (at bx by)) p
+pub lies_on : (ax ay bx by : ℕ) (p : Ratio) → Lies ax ay bx by p → LiesOn (segment (grid_point ax ay) (grid_point bx by)) p
 lies_on ax ay bx by p L =
     let e = L.at_x.parts in
     record {
@@ -100,7 +100,7 @@ lies_on ax ay bx by p L =
       y_is = L.y_is ∙ ap pos L.at_y.is ∙ sym (mean_is ay by p.q L.i L.k (omega arith));
     }
 
-pub is_at : (p : Ratio) (x y a b : ℕ) → p.x ≡ pos x → p.y ≡ pos y → x ≡ p.q * a → y ≡ p.q * b → IsAt p (at a b)
+pub is_at : (p : Ratio) (x y a b : ℕ) → p.x ≡ pos x → p.y ≡ pos y → x ≡ p.q * a → y ≡ p.q * b → IsAt p (grid_point a b)
 is_at p x y a b e f h k = record { x_is = e ∙ ap pos h ∙ sym (product_pos p.q a); y_is = f ∙ ap pos k ∙ sym (product_pos p.q b) }
 
 -- a part of a stretch lies in its bounds

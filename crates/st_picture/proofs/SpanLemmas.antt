@@ -9,14 +9,10 @@ use Rattle.std.proofs.Common.{ℕ, List, ◌≡◌, ◌≢◌, ◌<◌, ◌≤�
 use Rattle.std.proofs.lemmas.Bool.{cases_eq}
 use Rattle.st_ids.specs.Lists.{In, here, Precedes}
 use Rattle.st_ids.specs.Walks.{Walk, stay, step, Reaches}
-use Rattle.st_ids.proofs.ListLemmas.{Precedes-left, Precedes-right}
-use Rattle.st_ids.proofs.WalkLemmas.{walk_from, walk_to, on_walk, no_loop, reach_refl, reach_trans, reach_arc}
-use Rattle.st_ids.proofs.FiniteLemmas.{IsWithin, down, up}
+use Rattle.st_ids.proofs.Public.{Precedes-left, Precedes-right, walk_from, walk_to, on_walk, no_loop, reach_refl, reach_trans, reach_arc, IsWithin, down, up}
 use Rattle.st_sides.specs.Objects.{Object, vertex, edge, IsObject, left, right}
 use Rattle.st_sides.specs.Sides.{SidesValue, edge_count, edge_tail, edge_head, face_left, face_right, left_of, right_of, low, high, outs, ins, primal, dual, left_path, right_path, IsInner, IsSides, MeetsHigh}
-use Rattle.st_sides.proofs.FanLemmas.{from_first, to_last, order_out_beside, order_in_beside}
-use Rattle.st_sides.proofs.SweepLemmas.{dual_acyclic}
-use Rattle.st_sides.proofs.ExclusiveLemmas.{from_source, to_sink, across, across_out}
+use Rattle.st_sides.proofs.Public.{from_first, to_last, order_out_beside, order_in_beside, dual_acyclic, from_source, to_sink, across, across_out}
 use Rattle.st_picture.specs.Growing.{GrowsUp, GrowsRight, HasLines, InColumns, from_column, to_column}
 use Rattle.st_picture.proofs.FigureLemmas.{reach_grows}
 

@@ -10,7 +10,7 @@ use Rattle.st_shape.specs.declared.item.Item.TheVariants.{Bar, Line}
 use Rattle.st_shape.specs.declared.point.Point.{Point}
 use Rattle.st_sides.specs.Objects.{vertex}
 use Rattle.st_sides.specs.Sides.{SidesValue, left_of, right_of, IsSides}
-use Rattle.st_sides.proofs.ExclusiveLemmas.{left_below}
+use Rattle.st_sides.proofs.Public.{left_below}
 use Rattle.st_picture.specs.Bars.{HasNaturals, number_at}
 use Rattle.st_picture.specs.Growing.{GrowsRight}
 use Rattle.st_picture.proofs.SpanLemmas.{right_in, wide}

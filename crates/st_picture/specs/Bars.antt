@@ -18,7 +18,7 @@ use Rattle.st_shape.specs.Rules.{Drawing}
 use Rattle.st_sides.specs.Sides.{SidesValue, edge_count, edge_tail, edge_head, left_of, right_of}
 use Rattle.st_picture.specs.Naming.{vertex_name}
 use Rattle.st_picture.specs.Growing.{GrowsUp, GrowsRight, HasLines}
-use Rattle.st_picture.specs.Items.{at, drawing}
+use Rattle.st_picture.specs.Items.{grid_point, drawing}
 
 -- the vertex v as a bar
 abbrev pub bar : SidesValue → Names → (ℕ → ℕ) → (ℕ → ℕ) → ℕ → Item
@@ -26,15 +26,15 @@ bar g N y c v = Bar (vertex_name N v) (pos (y v)) (pos (c (left_of g v))) (pos (
 
 -- the left end of the bar of v
 abbrev pub bar_start : SidesValue → (ℕ → ℕ) → (ℕ → ℕ) → ℕ → Point
-bar_start g y c v = at (c (left_of g v)) (y v)
+bar_start g y c v = grid_point (c (left_of g v)) (y v)
 
 -- the two points of the line of e
 abbrev pub upright : SidesValue → (ℕ → ℕ) → (ℕ → ℕ) → ℕ → List Point
-upright g y k e = at (k e) (y (edge_tail g e)) ∷ at (k e) (y (edge_head g e)) ∷ []
+upright g y k e = grid_point (k e) (y (edge_tail g e)) ∷ grid_point (k e) (y (edge_head g e)) ∷ []
 
 -- the picture of bars and lines
 abbrev pub bars : SidesValue → Names → Form → (ℕ → ℕ) → (ℕ → ℕ) → (ℕ → ℕ) → Drawing
-bars g N form y c k = drawing g N form (at (c g.t_star - 1) (y g.sink)) (bar g N y c) (upright g y k) (bar_start g y c)
+bars g N form y c k = drawing g N form (grid_point (c g.t_star - 1) (y g.sink)) (bar g N y c) (upright g y k) (bar_start g y c)
 
 -- the number that stands at i in a table
 unfoldable pub number_at : List ℤ → ℕ → ℕ

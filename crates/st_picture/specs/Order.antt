@@ -1,9 +1,9 @@
 -- The order of the edges at a vertex, as a picture shows it.
 -- Frame: x grows to the right, y upwards; edges leave a vertex upwards and arrive from below. Letters: a, b points or
 -- directions, ps and qs the points of two lines, g sides, v vertex, e and f edges.
---   cross a b               above 0 where b turns left of a, below 0 where it turns right
---   leaving, arriving       the direction in which a line leaves its first point, and arrives at its last
---   IsLeftOut, IsLeftIn     of two lines out of a vertex, or into it, the first is to the left: by directions at a dot, by
+--   cross_of_directions a b  above 0 where b turns left of a, below 0 where it turns right
+--   leaving, arriving        the direction in which a line leaves its first point, and arrives at its last
+--   IsLeftOut, IsLeftIn      of two lines out of a vertex, or into it, the first is to the left: by directions at a dot, by
 --                           places on a bar
 --   IsShown                 two items are lines of which the first is to the left at the item of a vertex
 --   ShowsOrder g d v        so for any two edges out of v, and any two into it
@@ -18,12 +18,12 @@ use Rattle.st_sides.specs.Sides.{SidesValue, outs, ins}
 use Rattle.st_picture.specs.Items.{origin}
 
 -- the direction from a to b
-abbrev pub minus : Point → Point → Point
-minus b a = point (b.x -ℤ a.x) (b.y -ℤ a.y)
+abbrev pub point_minus : Point → Point → Point
+point_minus b a = point (b.x -ℤ a.x) (b.y -ℤ a.y)
 
 -- the cross product of two directions
-abbrev pub cross : Point → Point → ℤ
-cross a b = a.x *ℤ b.y -ℤ a.y *ℤ b.x
+abbrev pub cross_of_directions : Point → Point → ℤ
+cross_of_directions a b = a.x *ℤ b.y -ℤ a.y *ℤ b.x
 
 -- where a line begins, and where it ends
 abbrev pub first_point : List Point → Point
@@ -39,18 +39,18 @@ last_point (a ∷ b ∷ ps) = last_point (b ∷ ps)
 abbrev pub leaving : List Point → Point
 leaving [] = origin
 leaving (a ∷ []) = origin
-leaving (a ∷ b ∷ ps) = minus b a
+leaving (a ∷ b ∷ ps) = point_minus b a
 
 -- from the last point but one to the last
 abbrev pub arriving : List Point → Point
 arriving [] = origin
 arriving (a ∷ []) = origin
-arriving (a ∷ b ∷ []) = minus b a
+arriving (a ∷ b ∷ []) = point_minus b a
 arriving (a ∷ b ∷ c ∷ ps) = arriving (b ∷ c ∷ ps)
 
 -- of two lines out of this figure the first is to the left
 abbrev pub IsLeftOut : Item → List Point → List Point → Type 0
-IsLeftOut (Dot name p) ps qs = cross (leaving ps) (leaving qs) <ℤ pos 0
+IsLeftOut (Dot name p) ps qs = cross_of_directions (leaving ps) (leaving qs) <ℤ pos 0
 IsLeftOut (Bar name y from to) ps qs = (first_point ps).x <ℤ (first_point qs).x
 IsLeftOut (Line name tail head points) ps qs = ⊥
 IsLeftOut (Rect name tail head low high) ps qs = ⊥
@@ -59,7 +59,7 @@ IsLeftOut (Label name p text) ps qs = ⊥
 
 -- of two lines into this figure the first is to the left
 abbrev pub IsLeftIn : Item → List Point → List Point → Type 0
-IsLeftIn (Dot name p) ps qs = pos 0 <ℤ cross (arriving ps) (arriving qs)
+IsLeftIn (Dot name p) ps qs = pos 0 <ℤ cross_of_directions (arriving ps) (arriving qs)
 IsLeftIn (Bar name y from to) ps qs = (last_point ps).x <ℤ (last_point qs).x
 IsLeftIn (Line name tail head points) ps qs = ⊥
 IsLeftIn (Rect name tail head low high) ps qs = ⊥

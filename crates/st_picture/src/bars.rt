@@ -2,7 +2,7 @@
 ghost use Rattle.std.specs.Prelude.{◌≡◌, ℕ, ◌+◌, ◌-◌, ◌<◌, ◌≤◌, ◌^◌, ◌++◌, length, pos, slice_index_or, ◌≤ℤ◌, IfOk, OnOk};
 ghost use Rattle.st_picture.specs.Bars.{AreTables, HasFrame, HasNaturals, bar, bars, number_at, upright};
 ghost use Rattle.st_picture.specs.Growing.{GrowsRight};
-ghost use Rattle.st_picture.specs.Items.{at, each, line};
+ghost use Rattle.st_picture.specs.Items.{grid_point, items_by, line};
 ghost use Rattle.st_picture.specs.Naming.{AreNames};
 ghost use Rattle.st_shape.specs.Rules.{FitsFrame};
 ghost use Rattle.st_sides.specs.Sides.{edge_count};
@@ -38,7 +38,7 @@ fn point_in(columns: &[i64], column: u32, heights: &[i64], row: u32) -> Point
     requires column_natural { pos 0 ≤ℤ slice_index_or columns.now column (pos 0) }
     requires row { row < length heights.now }
     requires row_natural { pos 0 ≤ℤ slice_index_or heights.now row (pos 0) }
-    ensures { result ≡ at (number_at columns.now column) (number_at heights.now row) }
+    ensures { result ≡ grid_point (number_at columns.now column) (number_at heights.now row) }
 {
     Point {
         x: number_in(columns, column),
@@ -51,7 +51,7 @@ pub(crate) fn corner(sides: &Sides, heights: &[i64], columns: &[i64]) -> Point
     requires heights { HasNaturals heights.now sides.now.vertices }
     requires columns { HasNaturals columns.now (sides.now.t_star + 1) }
     requires rightward { GrowsRight sides.now (number_at columns.now) }
-    ensures { result ≡ at (number_at columns.now sides.now.t_star - 1) (number_at heights.now sides.now.sink) }
+    ensures { result ≡ grid_point (number_at columns.now sides.now.t_star - 1) (number_at heights.now sides.now.sink) }
 {
     laws::local(sides);
     Point {

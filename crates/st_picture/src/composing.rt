@@ -1,7 +1,7 @@
 //! Pictures that are put together from figures, lines and labels.
 ghost use Rattle.std.specs.Prelude.{◌≡◌, ℕ, ◌+◌, ◌<◌, ◌≤◌, ◌^◌, List, length, IfOk};
 ghost use Rattle.st_picture.specs.Composed.{Composes};
-ghost use Rattle.st_picture.specs.Items.{drawing, line, place_of};
+ghost use Rattle.st_picture.specs.Items.{drawing, line, item_place};
 ghost use Rattle.st_picture.specs.Naming.{AreNames, vertex_name};
 ghost use Rattle.st_shape.specs.Rules.{IsFrame};
 ghost use Rattle.st_shape.specs.declared.item.Item.{Item};
@@ -82,7 +82,7 @@ pub fn compose<F: Fn(u32) -> Item, L: Fn(u32) -> Item>(
     requires frame { IsFrame frame }
     requires room { sides.now.vertices + edge_count sides.now + sides.now.vertices < 2 ^ 31 }
     requires items { (f : ℕ → Item) × (p : ℕ → List Point) × Composes sides.now names.now frame (F.pre figure) (F.post figure) (L.pre line) (L.post line) f p }
-    ensures { (f : ℕ → Item) (p : ℕ → List Point) → Composes sides.now names.now frame (F.pre figure) (F.post figure) (L.pre line) (L.post line) f p → IfOk result (λ d. d ≡ drawing sides.now names.now form frame f p (λ v. place_of (f v))) }
+    ensures { (f : ℕ → Item) (p : ℕ → List Point) → Composes sides.now names.now frame (F.pre figure) (F.post figure) (L.pre line) (L.post line) f p → IfOk result (λ d. d ≡ drawing sides.now names.now form frame f p (λ v. item_place (f v))) }
 {
     let mut picture = Picture::new(alloc, form, frame);
     picture.reserve(sides.vertices() + sides.edges() + labelled(names))?;

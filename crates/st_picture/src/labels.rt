@@ -1,6 +1,6 @@
 //! The labels of a picture.
 ghost use Rattle.std.specs.Prelude.{◌≡◌, ◌+◌, ◌<◌, ◌^◌, ◌++◌, length, Some, IfOk, OnOk};
-ghost use Rattle.st_picture.specs.Items.{HasFigures, IsFigure, IsFigureAt, label_of, labels, place_at, place_of};
+ghost use Rattle.st_picture.specs.Items.{HasFigures, IsFigure, IsFigureAt, label_items, labels, place_at, item_place};
 ghost use Rattle.st_picture.specs.Naming.{HasLabels, label_text, vertex_name};
 
 use st_ids::{Names, NoMemory, Text, VertexId};
@@ -18,7 +18,7 @@ fn copied(alloc: Global, text: &Text) -> Result<Text, NoMemory>
 
 /// Where the label of a vertex stands that is drawn so: at its point, or at the left end of its bar.
 fn place_of(item: &Item) -> Point
-    ensures { result ≡ place_of item.now }
+    ensures { result ≡ item_place item.now }
 {
     match item {
         Item::Dot { p, .. } => *p,
@@ -41,7 +41,7 @@ fn push_label(
     requires there { v.0 < length names.now.label }
     requires figure { IsFigureAt picture.old.items v.0 }
     requires room { length picture.old.items + 1 < 2 ^ 31 }
-    ensures { OnOk result (picture.new ≡ record picture.old { items = picture.old.items ++ label_of (vertex_name names.now v.0) (place_at picture.old.items v.0) (label_text names.now v.0) }) }
+    ensures { OnOk result (picture.new ≡ record picture.old { items = picture.old.items ++ label_items (vertex_name names.now v.0) (place_at picture.old.items v.0) (label_text names.now v.0) }) }
 {
     match names.label.get(v) {
         Some(text) => {

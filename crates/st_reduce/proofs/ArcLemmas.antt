@@ -5,8 +5,7 @@ use Rattle.std.proofs.lemmas.Bool.{cases_eq}
 use Rattle.st_ids.specs.Lists.{In, here, there}
 use Rattle.st_ids.specs.Walks.{Arcs, Walk, stay, step, Reaches, IsAcyclic}
 use Rattle.st_reduce.specs.Transitive.{IsTransitive}
-use Rattle.st_ids.proofs.ListLemmas.{not_in_nil, In-cases, in_right, in_subst}
-use Rattle.st_ids.proofs.WalkLemmas.{walk_from, walk_to, no_loop, reach_refl, reach_trans}
+use Rattle.st_ids.proofs.Public.{not_in_nil, In-cases, in_right, in_subst, walk_from, walk_to, no_loop, reach_refl, reach_trans}
 
 -- E is D with arc e ending at the new node n, and a new arc from there to the old end of e.
 pub record SplitsArc (D E : Arcs) (n e : ℕ) : Type 0 where

@@ -4,10 +4,7 @@ use Rattle.std.proofs.lemmas.Bool.{cases_eq, cases_lt}
 use Rattle.st_ids.specs.Lists.{In, here}
 use Rattle.st_ids.specs.Walks.{Arcs, Walk, stay, step, IsAcyclic}
 use Rattle.st_ids.specs.Walks.{Reaches as Leads}
-use Rattle.st_ids.proofs.ListLemmas.{In-cases}
-use Rattle.st_ids.proofs.Public.{IsDecided, some_below}
-use Rattle.st_ids.proofs.WalkLemmas.{reach_refl, reach_trans, no_loop, on_walk}
-use Rattle.st_ids.proofs.FiniteLemmas.{IsWithin, up}
+use Rattle.st_ids.proofs.Public.{In-cases, IsDecided, some_below, reach_refl, reach_trans, no_loop, on_walk, IsWithin, up}
 use Rattle.st_reduce.specs.Transitive.{IsTransitive}
 
 -- ---- reaching and transitive arcs can be decided

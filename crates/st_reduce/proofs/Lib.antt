@@ -1,11 +1,12 @@
-pub mod RootLemmas
-pub mod ArcLemmas
-pub mod SplitLemmas
-pub mod DecideLemmas
-pub mod ReducedLemmas
-pub mod TransitiveLemmas
-pub mod MarkLemmas
-pub mod MarkedLemmas
-pub mod StarStepLemmas
-pub mod ReducedSidesLemmas
-pub mod OneLemmas
+mod RootLemmas
+mod ArcLemmas
+mod SplitLemmas
+mod DecideLemmas
+mod ReducedLemmas
+mod TransitiveLemmas
+mod MarkLemmas
+mod MarkedLemmas
+mod StarStepLemmas
+mod ReducedSidesLemmas
+mod OneLemmas
+pub mod Public

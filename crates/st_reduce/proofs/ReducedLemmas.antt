@@ -7,7 +7,7 @@ use Rattle.st_ids.specs.Graph.{arcs_of}
 use Rattle.st_ids.specs.Walks.{Reaches}
 use Rattle.st_map.specs.Embedded.{Embedded, bare, edges}
 use Rattle.st_map.specs.Split.{split, SplitsEdge}
-use Rattle.st_map.proofs.SplitLemmas.{split_law}
+use Rattle.st_map.proofs.Public.{split_law}
 use Rattle.st_test.specs.Planar.{IsPlanarSt}
 use Rattle.st_reduce.specs.Reduced.{IsTransitiveEdge, KeepsPlanar, Splits, begin, keep, cut, dummy_at, ReducedLaw}
 use Rattle.st_reduce.proofs.ArcLemmas.{SplitKeeps}

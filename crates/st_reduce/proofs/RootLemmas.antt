@@ -3,8 +3,7 @@ use Rattle.std.proofs.Common.{◌≡◌, ℕ, zero, suc, ◌<◌, ◌≤◌, Boo
 use Rattle.std.proofs.lemmas.Bool.{eqb-true, eq-eqb}
 use Rattle.st_map.specs.Counting.{count_below}
 use Rattle.st_map.specs.Orbits.{iterate, Permutes, SameOrbit, least_within}
-use Rattle.st_map.proofs.SumLemmas.{cover}
-use Rattle.st_map.proofs.OrbitLemmas.{orbit-refl, orbit-trans, orbit-sym, iterate-stays, least-at, root-below, root-same, root-root}
+use Rattle.st_map.proofs.Public.{cover, orbit-refl, orbit-trans, orbit-sym, iterate-stays, least-at, root-below, root-same, root-root}
 
 abbrev pub is_root : ℕ → (ℕ → ℕ) → ℕ → Bool
 is_root n f d = eqb (least_within n f d) d

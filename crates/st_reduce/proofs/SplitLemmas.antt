@@ -7,16 +7,12 @@ use Rattle.st_ids.specs.Walks.{IsAcyclic}
 use Rattle.st_map.specs.Orbits.{iterate, Permutes, SameOrbit}
 use Rattle.st_map.specs.Embedded.{Embedded, bare, edges, darts, tail, head, at, next, phi, face, faces, Touches}
 use Rattle.st_map.specs.Split.{moved, split, SplitsEdge}
-use Rattle.st_map.proofs.OrbitLemmas.{orbit-trans, orbit-sym, orbit-stays, orbit-refl, iterate-stays}
-use Rattle.st_map.proofs.EndLemmas.{even_or_odd, at_below, at-tail, at-head, twin-twin, twin-below, twin-tail, twin-head}
-use Rattle.st_map.proofs.RotationLemmas.{phi-permutes}
-use Rattle.st_map.proofs.SplitLemmas.{split_law}
+use Rattle.st_map.proofs.Public.{orbit-trans, orbit-sym, orbit-stays, orbit-refl, iterate-stays, even_or_odd, at_below, at-tail, at-head, twin-twin, twin-below, twin-tail, twin-head, phi-permutes, split_law}
 use Rattle.st_test.specs.Planar.{IsPlanarSt}
 use Rattle.st_test.specs.Poles.{IsOnlySource, IsOnlySink}
-use Rattle.st_sides.proofs.FaceRuns.{perm_st, phi-twin}
-use Rattle.st_reduce.specs.Reduced.{KeepsPlanar, SplitLaw}
+use Rattle.st_sides.proofs.Public.{perm_st, phi-twin, euler_bound_law}
+use Rattle.st_reduce.specs.Reduced.{KeepsPlanar, PlanarSplitLaw}
 use Rattle.st_reduce.proofs.RootLemmas.{roots, Projects, fewer}
-use Rattle.st_sides.proofs.BoundLemmas.{euler_bound_law}
 use Rattle.st_reduce.proofs.ArcLemmas.{SplitsArc, SplitKeeps, split_keeps}
 
 faces_are : (g : Embedded) → faces g ≡ roots (darts g) (phi g)
@@ -288,5 +284,5 @@ module _ (g h : Embedded) (s t outer e : ℕ) (st : IsPlanarSt g s t outer) (I :
         reaches = digraph_law.reaches;
       }
 
-pub split_planar : SplitLaw
+pub split_planar : PlanarSplitLaw
 split_planar g s t outer e st l = split_is g (split g e) s t outer e st (split_law g e (record { ends = st.ends_in; orders = st.orders }) l).0

@@ -7,14 +7,11 @@ use Rattle.st_map.specs.Orbits.{SameOrbit}
 use Rattle.st_map.specs.Laws.{FacesAre}
 use Rattle.st_map.specs.Embedded.{Embedded, edges, darts, tail, head, next, phi, face, faces}
 use Rattle.st_map.specs.Split.{moved, SplitsEdge}
-use Rattle.st_map.proofs.FaceLemmas.{faces_law}
-use Rattle.st_map.proofs.EndLemmas.{at_below, is_out-tail, is_out-head}
-use Rattle.st_map.proofs.RotationLemmas.{next-apart}
-use Rattle.st_map.proofs.SplitLemmas.{which}
+use Rattle.st_map.proofs.Public.{faces_law, at_below, is_out-tail, is_out-head, next-apart, which}
 use Rattle.st_test.specs.Planar.{IsPlanarSt}
 use Rattle.st_sides.specs.Conditions.{AreIns, AreOuts, AreSides, ListsOnce, node, left_face, right_face}
 use Rattle.st_sides.specs.LocalSides.{AtVertices, Between}
-use Rattle.st_sides.proofs.LawLemmas.{local_law}
+use Rattle.st_sides.proofs.Public.{local_law}
 use Rattle.st_reduce.proofs.SplitLemmas.{orbit_up, from_moved}
 
 odd_even : (a b : ℕ) → 2 * a + 1 ≡ 2 * b → ⊥

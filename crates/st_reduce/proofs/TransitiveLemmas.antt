@@ -5,12 +5,8 @@ use Rattle.st_ids.specs.Walks.{Walk, stay, step, Reaches}
 use Rattle.st_sides.specs.Sides.{SidesValue, edge_count, edge_tail, edge_head, face_left, face_right, ins, low, high, left_path, right_path, left_of, right_of, primal, dual, IsInner, MeetsLow, MeetsHigh, IsSides}
 use Rattle.st_sides.specs.Objects.{vertex, edge, before, after, leftward, rightward}
 use Rattle.st_reduce.specs.Transitive.{IsTransitive, IsOneSide, TransitiveLaw}
-use Rattle.st_ids.proofs.ListLemmas.{not_in_nil, In-cases, in_subst}
-use Rattle.st_ids.proofs.WalkLemmas.{walk_from, walk_to, on_walk, no_loop, unique_tail, reach_refl, reach_trans, reach_arc}
-use Rattle.st_sides.proofs.FanLemmas.{Beside, beside_out, beside_in, from_first, to_last}
-use Rattle.st_sides.proofs.SweepLemmas.{dual_acyclic}
-use Rattle.st_sides.proofs.ExclusiveLemmas.{across_out}
-use Rattle.st_sides.proofs.TotalLemmas.{compared}
+use Rattle.st_ids.proofs.Public.{not_in_nil, In-cases, in_subst, walk_from, walk_to, on_walk, no_loop, unique_tail, reach_refl, reach_trans, reach_arc}
+use Rattle.st_sides.proofs.Public.{Beside, beside_out, beside_in, from_first, to_last, dual_acyclic, across_out, compared}
 
 module _ (g : SidesValue) (S : IsSides g) where
   pub across_in : (v e : ℕ) → v < g.vertices → v ≢ g.source → v ≢ g.sink → e < edge_count g → edge_head g e ≡ v → Reaches (dual g) (left_of g v) (face_left g e) × Reaches (dual g) (face_right g e) (right_of g v)

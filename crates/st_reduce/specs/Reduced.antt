@@ -2,7 +2,7 @@
 -- Letters: g graph with its lists, h the graph so far, s source, t sink, outer an end on the outer face, k how many edges
 -- were gone through, ds the dummy of each of them.
 --   KeepsPlanar g h s t outer    h is a planar st-graph with the same poles and outer end, and reaching stays
---   SplitLaw                     that is so where an edge is split
+--   PlanarSplitLaw               that is so where an edge is split
 --   IsTransitiveEdge g e         a walk from the edge's tail to its head avoids it
 --   Splits g k ds h              h is g with those of its first k edges split, in file order, that are transitive in g
 --   IsReduced g ds h             the reduced graph, with the dummies
@@ -23,8 +23,8 @@ pub record KeepsPlanar (g h : Embedded) (s t outer : ℕ) : Type 0 where
   pub reaches : (u v : ℕ) → u < g.vertices → v < g.vertices → Reaches (arcs_of (bare g)) u v ↔ Reaches (arcs_of (bare h)) u v
 
 -- a planar st-graph stays one where an edge is split
-abbrev pub SplitLaw : Type 0
-SplitLaw = (g : Embedded) (s t outer e : ℕ) → IsPlanarSt g s t outer → e < edges g → KeepsPlanar g (split g e) s t outer
+abbrev pub PlanarSplitLaw : Type 0
+PlanarSplitLaw = (g : Embedded) (s t outer e : ℕ) → IsPlanarSt g s t outer → e < edges g → KeepsPlanar g (split g e) s t outer
 
 -- a walk from the edge's tail to its head avoids it
 abbrev pub IsTransitiveEdge : Embedded → ℕ → Type 0

@@ -1,13 +1,13 @@
 //! Laws of edges that are split, and of transitive edges: empty functions, whose contracts are theorems about the
 //! definitions of specs/.
-ghost use Rattle.st_reduce.specs.Reduced.{OneReducedLaw, ReducedLaw, SplitLaw};
+ghost use Rattle.st_reduce.specs.Reduced.{OneReducedLaw, ReducedLaw, PlanarSplitLaw};
 ghost use Rattle.st_reduce.specs.ReducedSides.{ReducedSidesLaw};
 ghost use Rattle.st_reduce.specs.Transitive.{TransitiveLaw};
 
 /// An edge of a planar st-graph that is split leaves a planar st-graph with the same poles and the same outer end, and the
 /// old vertices reach each other as before.
 pub fn split()
-    ensures { SplitLaw }
+    ensures { PlanarSplitLaw }
 {}
 
 /// In the sides of a planar st-graph an edge is transitive exactly where it alone is the left or the right path of an inner

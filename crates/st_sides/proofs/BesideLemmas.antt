@@ -7,7 +7,7 @@ use Rattle.st_ids.specs.EdgeNumbers.{numbers}
 use Rattle.st_ids.specs.Ends.{is_out, edge_of}
 use Rattle.st_ids.specs.declared.ids.EdgeId.{EdgeId}
 use Rattle.st_map.specs.Embedded.{Embedded, at, darts, edges}
-use Rattle.st_map.proofs.EndLemmas.{at-out, edge_of-below}
+use Rattle.st_map.proofs.Public.{at-out, edge_of-below}
 use Rattle.st_test.specs.Planar.{IsPlanarSt}
 use Rattle.st_sides.specs.Conditions.{AreOuts}
 use Rattle.st_sides.specs.Filled.{IsFilled}

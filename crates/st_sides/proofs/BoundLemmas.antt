@@ -8,10 +8,7 @@ use Rattle.st_sides.specs.Corners.{turns_up, turns_down, goes_up, goes_down, is_
 use Rattle.st_ids.specs.Ends.{is_out, twin}
 use Rattle.st_map.specs.Embedded.{Embedded, edges, darts, tail, head, at, next, phi, face, faces}
 use Rattle.st_sides.specs.Laws.{IsOrderedSt, EulerBoundLaw}
-use Rattle.st_map.proofs.SumLemmas.{cover}
-use Rattle.st_map.proofs.OrbitLemmas.{orbit-trans, orbit-sym, orbit-stays, root-same, root-below, change_between, some_or_none}
-use Rattle.st_map.proofs.EndLemmas.{at_below, is_out-tail, is_out-head, at-tail, at-head, twin-twin, is_out-twin, twin-below}
-use Rattle.st_map.proofs.RotationLemmas.{at-next, next-permutes, phi-permutes, same_vertex, at-iterate}
+use Rattle.st_map.proofs.Public.{cover, orbit-trans, orbit-sym, orbit-stays, root-same, root-below, change_between, some_or_none, at_below, is_out-tail, is_out-head, at-tail, at-head, twin-twin, is_out-twin, twin-below, at-next, next-permutes, phi-permutes, same_vertex, at-iterate}
 use Rattle.st_sides.proofs.CornerLemmas.{all_corners, inner_many}
 use Rattle.st_sides.proofs.FaceRuns.{has_out, has_in, phi-twin}
 

@@ -4,8 +4,7 @@ use Rattle.st_ids.specs.Lists.{In, here, there, NoRepeat, Lists}
 use Rattle.st_ids.specs.Walks.{Walk, stay, step, Reaches}
 use Rattle.st_sides.specs.Sides.{SidesValue, edge_count, face_left, face_right, low, high, left_path, right_path, primal, dual, IsInner, IsSides}
 use Rattle.st_sides.specs.Sweep.{OnBoundary, Boundary}
-use Rattle.st_ids.proofs.ListLemmas.{not_in_nil, In-cases, in_left, in_right, in_append, in_subst}
-use Rattle.st_ids.proofs.WalkLemmas.{walk_from, walk_to, walk_append, walk_once, apart, Part, part_of}
+use Rattle.st_ids.proofs.Public.{not_in_nil, In-cases, in_left, in_right, in_append, in_subst, walk_from, walk_to, walk_append, walk_once, apart, Part, part_of}
 
 -- f may come next after the list
 pub record IsNext (g : SidesValue) (L : List ℕ) (f : ℕ) : Type 0 where

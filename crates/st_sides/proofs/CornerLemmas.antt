@@ -6,8 +6,7 @@ use Rattle.std.proofs.lemmas.Bool.{eqb-true, eq-eqb, and_from}
 use Rattle.st_map.specs.Counting.{total, bit, count_below, fibre}
 use Rattle.st_map.specs.Orbits.{Permutes, SameOrbit, least_within}
 use Rattle.st_sides.specs.Corners.{turns_up, turns_down, goes_up, goes_down, is_inner}
-use Rattle.st_map.proofs.SumLemmas.{total-add, total-one, total-same, total-le, once, cover, cover-exact, same_counted, some_counted, bit_positive, bit_le}
-use Rattle.st_map.proofs.OrbitLemmas.{orbit-trans, orbit-sym, orbit-stays, root-same, root-below, change_between, root-root}
+use Rattle.st_map.proofs.Public.{total-add, total-one, total-same, total-le, once, cover, cover-exact, same_counted, some_counted, bit_positive, bit_le, orbit-trans, orbit-sym, orbit-stays, root-same, root-below, change_between, root-root}
 
 -- each corner is of one kind
 four_kinds : (a b : Bool) → (bit (not a && b) + bit (a && not b)) + (bit (a && b) + bit (not a && not b)) ≡ 1

@@ -5,7 +5,7 @@ use Rattle.std.proofs.lemmas.List.{get_or_append_left, get_or_push, length_push}
 use Rattle.st_ids.specs.Graph.{tail_of, head_of, arcs_of}
 use Rattle.st_ids.specs.Lists.{Precedes}
 use Rattle.st_ids.specs.Walks.{Walk, stay, step, IsAcyclic}
-use Rattle.st_ids.proofs.WalkLemmas.{walk_from}
+use Rattle.st_ids.proofs.Public.{walk_from}
 use Rattle.st_test.specs.Poles.{graph_of}
 use Rattle.st_test.specs.Topological.{AreOrdered, IsTopologicalOrder}
 use Rattle.st_sides.specs.Sides.{SidesValue, edge_count, face_left, face_right, dual}

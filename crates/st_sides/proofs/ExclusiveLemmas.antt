@@ -6,9 +6,7 @@ use Rattle.st_ids.specs.Walks.{Walk, stay, step, Reaches}
 use Rattle.st_sides.specs.Sides.{SidesValue, edge_count, edge_tail, face_left, face_right, outs, left_of, right_of, primal, dual, MeetsLow, IsSides}
 use Rattle.st_sides.specs.Sweep.{OnBoundary}
 use Rattle.st_sides.specs.Objects.{Object, vertex, edge, IsObject, bottom, top, left, right, Before, LeftOf}
-use Rattle.st_ids.proofs.ListLemmas.{not_in_nil, In-cases, in_subst, in_right, first_of}
-use Rattle.st_ids.proofs.WalkLemmas.{on_walk, walk_append, reach_refl, reach_trans, reach_arc, no_loop}
-use Rattle.st_ids.proofs.FiniteLemmas.{down, up, length-le_from_below}
+use Rattle.st_ids.proofs.Public.{not_in_nil, In-cases, in_subst, in_right, first_of, on_walk, walk_append, reach_refl, reach_trans, reach_arc, no_loop, down, up, length-le_from_below}
 use Rattle.st_sides.proofs.FanLemmas.{from_first, to_last}
 use Rattle.st_sides.proofs.BoundaryLemmas.{Swept, start, grow, swept_below, swept_zero, swept_once, boundary, closed_reach}
 use Rattle.st_sides.proofs.SearchLemmas.{search}

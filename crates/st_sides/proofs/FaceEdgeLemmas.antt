@@ -9,9 +9,7 @@ use Rattle.st_sides.specs.GraphWalks.{IsWalk}
 use Rattle.st_test.specs.Planar.{IsPlanarSt}
 use Rattle.st_sides.specs.Conditions.{IsSidePath, AreSides, left_face, right_face, node}
 use Rattle.st_sides.specs.LocalSides.{first, last, AtRightEnd, AtLeftEnd, AtFaces}
-use Rattle.st_map.proofs.OrbitLemmas.{iterate-stays, steps, orbit-trans, orbit-stays}
-use Rattle.st_map.proofs.EndLemmas.{is_out-tail, is_out-head, at-tail, at-head, out_is, in_is, edge_of-below}
-use Rattle.st_map.proofs.RotationLemmas.{at-next}
+use Rattle.st_map.proofs.Public.{iterate-stays, steps, orbit-trans, orbit-stays, is_out-tail, is_out-head, at-tail, at-head, out_is, in_is, edge_of-below, at-next}
 use Rattle.st_sides.proofs.FaceRuns.{at_st, perm_st, face_runs, has_out, has_in, poles_apart}
 use Rattle.st_sides.proofs.StarLemmas.{face-same}
 use Rattle.st_sides.proofs.NodeLemmas.{node-met, node-same, left_face-outer, left_face-inner, right_face-outer, right_face-inner}

@@ -13,10 +13,8 @@ use Rattle.st_map.specs.Embedded.{HasOrders}
 use Rattle.st_sides.specs.GraphWalks.{HasNoCycle}
 use Rattle.st_test.specs.Planar.{IsPlanarSt}
 use Rattle.st_sides.specs.Stretches.{forward, backward}
-use Rattle.st_map.proofs.OrbitLemmas.{orbit-trans, orbit-sym, orbit-stays, iterate-stays, iterate-step, some_or_none, period, change_between, before, orbit-step, steps}
+use Rattle.st_map.proofs.Public.{orbit-trans, orbit-sym, orbit-stays, iterate-stays, iterate-step, some_or_none, period, change_between, before, orbit-step, steps, even_or_odd, is_out-tail, is_out-head, at-tail, at-head, at-out, at-in, twin-twin, twin-out, twin-in, is_out-twin, twin-below, edge_of-below, twin-apart, at-next, next-permutes, phi-permutes, at-phi, same_vertex, at-iterate}
 use Rattle.st_sides.proofs.TwoRunLemmas.{two_runs}
-use Rattle.st_map.proofs.EndLemmas.{even_or_odd, is_out-tail, is_out-head, at-tail, at-head, at-out, at-in, twin-twin, twin-out, twin-in, is_out-twin, twin-below, edge_of-below, twin-apart}
-use Rattle.st_map.proofs.RotationLemmas.{at-next, next-permutes, phi-permutes, at-phi, same_vertex, at-iterate}
 use Rattle.st_sides.proofs.CornerLemmas as corners
 
 -- at the twin of an end in, phi leads to the next

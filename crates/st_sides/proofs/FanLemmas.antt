@@ -3,8 +3,7 @@ use Rattle.std.proofs.Common.{ℕ, List, [], ◌∷◌, ◌≡◌, ◌<◌, ◌�
 use Rattle.st_ids.specs.Lists.{In, here, there, Precedes, Linked, NextTo, FirstIs, LastIs, EndIs}
 use Rattle.st_ids.specs.Walks.{Reaches}
 use Rattle.st_sides.specs.Sides.{SidesValue, edge_count, edge_tail, edge_head, face_left, face_right, outs, ins, dual, MeetsLow, MeetsHigh, IsSides}
-use Rattle.st_ids.proofs.ListLemmas.{not_in_nil}
-use Rattle.st_ids.proofs.WalkLemmas.{reach_refl, reach_trans, reach_arc}
+use Rattle.st_ids.proofs.Public.{not_in_nil, reach_refl, reach_trans, reach_arc}
 
 -- e stands to the left of e' among edges with M between neighbours
 pub record Beside (g : SidesValue) (M : ℕ → ℕ → Type 0) (e e' : ℕ) : Type 0 where

@@ -6,8 +6,7 @@ use Rattle.st_ids.specs.Ends.{is_out}
 use Rattle.st_map.specs.Embedded.{Embedded, darts, at, next, phi}
 use Rattle.st_test.specs.Planar.{IsPlanarSt}
 use Rattle.st_sides.specs.Laws.{VertexTurns, FaceTurns, CornersLaw, SidesLaw, LocalLaw}
-use Rattle.st_map.proofs.OrbitLemmas.{turn_covers}
-use Rattle.st_map.proofs.RotationLemmas.{same_vertex}
+use Rattle.st_map.proofs.Public.{turn_covers, same_vertex}
 use Rattle.st_sides.proofs.FaceRuns.{at_st, face_runs, vertex_runs, outer_low, outer_high, out_at_s, in_at_t, poles_apart}
 use Rattle.st_sides.proofs.StarLemmas.{next_st}
 use Rattle.st_sides.proofs.PathLemmas.{right_path_of, left_path_of}

@@ -1,37 +1,38 @@
-pub mod BesideLemmas
-pub mod BoundLemmas
-pub mod BoundaryLemmas
-pub mod CornerLemmas
-pub mod DualLemmas
-pub mod ExampleLemmas
-pub mod ExclusiveLemmas
-pub mod ExistLemmas
-pub mod FaceEdgeLemmas
-pub mod FaceRuns
-pub mod FanLemmas
-pub mod LawLemmas
-pub mod LocalLemmas
-pub mod MeaningLemmas
-pub mod NodeLemmas
-pub mod NodeListLemmas
-pub mod NodeStartLemmas
-pub mod RotationLemmas
-pub mod NormalLemmas
-pub mod OfLemmas
-pub mod OneValueLemmas
-pub mod OwnLemmas
-pub mod PathLemmas
-pub mod PlaceLists
-pub mod ReaderLemmas
-pub mod ReorderLemmas
-pub mod RoundLemmas
-pub mod RunLemmas
-pub mod SearchLemmas
-pub mod SideLemmas
-pub mod StarLemmas
-pub mod StartLemmas
-pub mod SweepLemmas
-pub mod SweptLemmas
-pub mod TotalLemmas
-pub mod TwoRunLemmas
-pub mod WalkPlaces
+mod BesideLemmas
+mod BoundLemmas
+mod BoundaryLemmas
+mod CornerLemmas
+mod DualLemmas
+mod ExampleLemmas
+mod ExclusiveLemmas
+mod ExistLemmas
+mod FaceEdgeLemmas
+mod FaceRuns
+mod FanLemmas
+mod LawLemmas
+mod LocalLemmas
+mod MeaningLemmas
+mod NodeLemmas
+mod NodeListLemmas
+mod NodeStartLemmas
+mod RotationLemmas
+mod NormalLemmas
+mod OfLemmas
+mod OneValueLemmas
+mod OwnLemmas
+mod PathLemmas
+mod PlaceLists
+mod ReaderLemmas
+mod ReorderLemmas
+mod RoundLemmas
+mod RunLemmas
+mod SearchLemmas
+mod SideLemmas
+mod StarLemmas
+mod StartLemmas
+mod SweepLemmas
+mod SweptLemmas
+mod TotalLemmas
+mod TwoRunLemmas
+mod WalkPlaces
+pub mod Public

@@ -11,9 +11,7 @@ use Rattle.st_test.specs.Planar.{IsPlanarSt}
 use Rattle.st_sides.specs.Stretches.{forward}
 use Rattle.st_sides.specs.Conditions.{IsSidePath, AreSides, left_face, right_face, node}
 use Rattle.st_sides.specs.LocalSides.{first, last, Between, AtVertices}
-use Rattle.st_map.proofs.OrbitLemmas.{iterate-stays, iterate-add, steps, orbit-trans, orbit-sym, turn_covers, before}
-use Rattle.st_map.proofs.EndLemmas.{is_out-tail, is_out-head, at-tail, at-head, at-out, at-in, out_is, in_is, twin-tail, twin-head, edge_of-below, is_out-twin, twin-below}
-use Rattle.st_map.proofs.RotationLemmas.{at-next, at-phi}
+use Rattle.st_map.proofs.Public.{iterate-stays, iterate-add, steps, orbit-trans, orbit-sym, turn_covers, before, is_out-tail, is_out-head, at-tail, at-head, at-out, at-in, out_is, in_is, twin-tail, twin-head, edge_of-below, is_out-twin, twin-below, at-next, at-phi}
 use Rattle.st_sides.proofs.FaceRuns.{at_st, perm_st, phi-twin, face_runs, outer_low, outer_high, out_at_s, in_at_t, poles_apart, end_in, end_out, turn_up_once, turn_down_once, forward_walk}
 use Rattle.st_sides.proofs.StarLemmas.{face-same, next_st}
 use Rattle.st_sides.proofs.NodeLemmas.{same_orbit, node-same, node-positive, node-below, left_face-outer, left_face-inner, right_face-outer, right_face-inner, left_face-0, left_face-at, right_face-last, right_face-at, left_face-below}

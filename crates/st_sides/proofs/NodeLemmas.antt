@@ -6,8 +6,7 @@ use Rattle.st_map.specs.Orbits.{SameOrbit}
 use Rattle.st_map.specs.Embedded.{Embedded, edges, darts, phi, face, faces}
 use Rattle.st_test.specs.Planar.{IsPlanarSt}
 use Rattle.st_sides.specs.Conditions.{is_inner_face, node, left_face, right_face}
-use Rattle.st_map.proofs.SumLemmas.{total-add, total-same, once}
-use Rattle.st_map.proofs.OrbitLemmas.{root-root, root-below, root-le, same-from_root}
+use Rattle.st_map.proofs.Public.{total-add, total-same, once, root-root, root-below, root-le, same-from_root}
 use Rattle.st_sides.proofs.FaceRuns.{perm_st}
 
 pub count-more : (a b : ℕ) (p : ℕ → Bool) → a ≤ b → count_below a p ≤ count_below b p

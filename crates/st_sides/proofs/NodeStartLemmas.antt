@@ -6,7 +6,7 @@ use Rattle.st_ids.specs.Ends.{is_out}
 use Rattle.st_map.specs.Counting.{bit, count_below}
 use Rattle.st_map.specs.Orbits.{iterate, Permutes, SameOrbit}
 use Rattle.st_map.specs.Embedded.{Embedded, at, darts, edges, face, faces, phi}
-use Rattle.st_map.proofs.SumLemmas.{total-same, count_less}
+use Rattle.st_map.proofs.Public.{total-same, count_less}
 use Rattle.st_test.specs.FaceNumbers.{is_least, orbit_number}
 use Rattle.st_test.specs.Planar.{IsPlanarSt}
 use Rattle.st_sides.specs.Conditions.{IsSidePath, is_inner_face, node, left_face, right_face}

@@ -11,11 +11,10 @@ use Rattle.st_test.specs.Planar.{IsPlanarSt}
 use Rattle.st_sides.specs.Conditions.{AreSides, left_face, right_face}
 use Rattle.st_sides.specs.LocalSides.{first}
 use Rattle.st_sides.specs.Normal.{clockwise, reordered, NormalLaw}
-use Rattle.st_map.proofs.EndLemmas.{at-tail, at-head, is_out-tail}
-use Rattle.st_map.proofs.RotationLemmas.{next-at, next-last}
+use Rattle.st_map.proofs.Public.{at-tail, at-head, is_out-tail, next-at, next-last}
 use Rattle.st_sides.proofs.FaceRuns.{at_st, poles_apart}
 use Rattle.st_sides.proofs.LocalLemmas.{out_place, in_place, out_there, in_there, after_outs, after_ins, some_out}
-use Rattle.st_sides.specs.Rotation.{IsRotation, OrderLaw}
+use Rattle.st_sides.specs.Rotation.{IsCyclicShift, OrderLaw}
 use Rattle.st_sides.specs.Sides.{outs, ins, low, high, left_path, right_path}
 use Rattle.st_sides.proofs.RotationLemmas.{HasOnce, IsCircle, rotation}
 use Rattle.st_sides.proofs.ReorderLemmas.{at-reordered, planar-re, sides-re, left_face-re, right_face-re, faces-re}
@@ -253,7 +252,7 @@ module _ (g : Embedded) (s t outer : ℕ) (st : IsPlanarSt g s t outer) (outs in
   }
 
   -- the edges out of v and then those into it are the list of v, read on from one of its places
-  pub turned : (v : ℕ) → v < g.vertices → IsRotation (order g v) (clockwise (outs v) (ins v))
+  pub turned : (v : ℕ) → v < g.vertices → IsCyclicShift (order g v) (clockwise (outs v) (ins v))
   turned v lv = rotation (next g) (order g v) (clockwise (outs v) (ins v)) (order-once v lv) (turned-once v lv) (order-circle v lv) (turned-circle v lv)
 
   normal_parts : IsPlanarSt (reordered g lists) s t (2 * first (outs s))

@@ -6,10 +6,9 @@ use Rattle.st_ids.specs.Graph.{arcs_of}
 use Rattle.st_ids.specs.Ends.{is_out}
 use Rattle.st_ids.specs.Lists.{In, here, there}
 use Rattle.st_ids.specs.Walks.{Arcs, Walk, stay, step, IsAcyclic}
-use Rattle.st_ids.proofs.ListLemmas.{not_in_nil, In-cases, in_subst}
-use Rattle.st_ids.proofs.WalkLemmas.{on_walk, no_loop, reach_trans, reach_arc}
+use Rattle.st_ids.proofs.Public.{not_in_nil, In-cases, in_subst, on_walk, no_loop, reach_trans, reach_arc}
 use Rattle.st_map.specs.Embedded.{Embedded, bare, edges, tail, head, next, faces}
-use Rattle.st_map.proofs.EndLemmas.{is_out-tail, is_out-head}
+use Rattle.st_map.proofs.Public.{is_out-tail, is_out-head}
 use Rattle.st_test.specs.Planar.{IsPlanarSt}
 use Rattle.st_sides.specs.Conditions.{ListsOnce, AreOuts, AreIns, IsSidePath, left_face, right_face}
 use Rattle.st_sides.specs.LocalSides.{first, last, Between, AtVertices, AtFaces}

@@ -8,7 +8,7 @@ use Rattle.st_sides.specs.GraphWalks.{IsWalk}
 use Rattle.st_test.specs.Planar.{IsPlanarSt}
 use Rattle.st_sides.specs.Stretches.{forward, backward}
 use Rattle.st_sides.specs.Conditions.{IsSidePath}
-use Rattle.st_map.proofs.OrbitLemmas.{iterate-stays, iterate-add, steps, orbit-trans}
+use Rattle.st_map.proofs.Public.{iterate-stays, iterate-add, steps, orbit-trans}
 use Rattle.st_sides.proofs.RunLemmas.{Runs, from_two, length-forward, length-backward, outs-at, outs-below, outs-each, outs-once, ins-at, ins-below, ins-each, ins-once}
 use Rattle.st_sides.proofs.FaceRuns.{perm_st, forward_walk, backward_walk}
 use Rattle.st_sides.proofs.StarLemmas.{face-same}

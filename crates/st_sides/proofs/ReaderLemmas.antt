@@ -6,7 +6,7 @@ use Rattle.st_ids.specs.EdgeNumbers.{numbers}
 use Rattle.st_ids.specs.declared.ids.EdgeId.{EdgeId}
 use Rattle.st_ids.specs.Lists.{In, here, there, EndIs, LastIs}
 use Rattle.st_ids.specs.Walks.{Arcs, Walk, stay, step}
-use Rattle.st_ids.proofs.ListLemmas.{First, first_of, not_in_nil}
+use Rattle.st_ids.proofs.Public.{First, first_of, not_in_nil}
 use Rattle.st_sides.specs.Sides.{SidesValue, edge_count, face_left, face_right, outs, ins, low, high, left_path, right_path, left_of, right_of, primal, IsSides}
 
 -- each of the edges has a number below n where all numbers are

@@ -9,9 +9,7 @@ use Rattle.st_map.specs.Embedded.{HasOrders}
 use Rattle.st_test.specs.Planar.{IsPlanarSt}
 use Rattle.st_sides.specs.Conditions.{ListsOnce, AreOuts, AreIns, IsSidePath, AreSides, is_inner_face, node, left_face, right_face}
 use Rattle.st_sides.specs.Normal.{reordered}
-use Rattle.st_map.proofs.SumLemmas.{total-same}
-use Rattle.st_map.proofs.OrbitLemmas.{iterate-stays, orbit-trans}
-use Rattle.st_map.proofs.EndLemmas.{twin-below}
+use Rattle.st_map.proofs.Public.{total-same, iterate-stays, orbit-trans, twin-below}
 use Rattle.st_sides.proofs.FaceRuns.{perm_st}
 use Rattle.st_sides.proofs.NodeLemmas.{face-below, same_orbit}
 

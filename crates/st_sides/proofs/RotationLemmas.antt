@@ -2,8 +2,8 @@
 use Rattle.std.proofs.Common.{◌≡◌, ◌≢◌, ℕ, zero, suc, ◌+◌, ◌-◌, ◌<◌, ◌≤◌, inl, inr, List, [], ◌∷◌, ◌++◌, take, drop, length, get_or, refl, sym, ap, ◌∙◌, arith, length-append}
 use Rattle.std.proofs.lemmas.List.{ext_get_or, get_or_append_left, get_or-append-add, get_or-drop, get_or-take, length-drop, length-take-le}
 use Rattle.std.proofs.lemmas.Bool.{cases_lt}
-use Rattle.st_map.proofs.OrbitLemmas.{pigeonhole}
-use Rattle.st_sides.specs.Rotation.{IsRotation}
+use Rattle.st_map.proofs.Public.{pigeonhole}
+use Rattle.st_sides.specs.Rotation.{IsCyclicShift}
 
 -- f leads from each number of the list to the next, and from the last to the first
 pub record IsCircle (f : ℕ → ℕ) (xs : List ℕ) : Type 0 where
@@ -72,12 +72,12 @@ module _ (f : ℕ → ℕ) (xs ys : List ℕ) (cx : IsCircle f xs) (cy : IsCircl
   unfolding turned
   sized = omega (arith, length-append (drop k xs) (take k xs), length-drop k xs, length-take-le k xs (omega arith))
 
-  pub rotated : IsRotation xs ys
+  pub rotated : IsCyclicShift xs ys
   unfolding turned
   rotated = record { from = k; is = ext_get_or 0 ys turned sized (λ i l. same_at i l) }
 
 -- the rule, for two lists of the same numbers
-pub rotation : {P : ℕ → Type 0} (f : ℕ → ℕ) (xs ys : List ℕ) → HasOnce P xs → HasOnce P ys → IsCircle f xs → IsCircle f ys → IsRotation xs ys
+pub rotation : {P : ℕ → Type 0} (f : ℕ → ℕ) (xs ys : List ℕ) → HasOnce P xs → HasOnce P ys → IsCircle f xs → IsCircle f ys → IsCyclicShift xs ys
 rotation {P} f xs ys h k cx cy = elim (cases_lt 0 (length ys)) [
   | inl l ↦
       let q = h.listed (get_or ys 0 0) (k.own 0 l) in

@@ -6,7 +6,7 @@ use Rattle.st_ids.specs.Ends.{is_out, edge_of}
 use Rattle.st_ids.specs.EdgeNumbers.{numbers}
 use Rattle.st_ids.specs.declared.ids.EdgeId.{EdgeId}
 use Rattle.st_map.specs.Orbits.{iterate, Permutes}
-use Rattle.st_map.proofs.OrbitLemmas.{least_period, iterate-add, steps, turn_apart}
+use Rattle.st_map.proofs.Public.{least_period, iterate-add, steps, turn_apart}
 use Rattle.st_sides.specs.Rounds.{IsRun, HasParts, AreParts}
 use Rattle.st_sides.specs.Stretches.{forward}
 use Rattle.st_sides.proofs.RunLemmas.{Runs, forward-push, backward-reverse}

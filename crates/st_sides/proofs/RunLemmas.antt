@@ -6,8 +6,7 @@ use Rattle.st_map.specs.Orbits.{iterate, Permutes, SameOrbit}
 use Rattle.st_sides.specs.Runs.{TwoRuns}
 use Rattle.st_ids.specs.Ends.{is_out, edge_of}
 use Rattle.st_sides.specs.Stretches.{forward, backward}
-use Rattle.st_map.proofs.OrbitLemmas.{iterate-stays, iterate-step, iterate-add, steps, turn_covers, turn_apart}
-use Rattle.st_map.proofs.EndLemmas.{is_out-tail, is_out-head, out_is, in_is}
+use Rattle.st_map.proofs.Public.{iterate-stays, iterate-step, iterate-add, steps, turn_covers, turn_apart, is_out-tail, is_out-head, out_is, in_is}
 
 -- k ends out and then p - k ends in, either of which may be none
 pub record Runs (f : ℕ → ℕ) (x k p : ℕ) : Type 0 where

@@ -5,8 +5,7 @@ use Rattle.st_ids.specs.Lists.{In, here, there, Lists}
 use Rattle.st_ids.specs.Walks.{Walk, stay, step, Reaches}
 use Rattle.st_sides.specs.Sides.{SidesValue, edge_count, edge_tail, edge_head, face_right, low, high, left_path, primal, IsInner, IsSides}
 use Rattle.st_sides.specs.Sweep.{OnBoundary}
-use Rattle.st_ids.proofs.ListLemmas.{not_in_nil, In-cases, in_subst}
-use Rattle.st_ids.proofs.WalkLemmas.{walk_from, walk_to, on_walk, no_loop, unique_tail, arrives, reach_refl, reach_trans, reach_arc}
+use Rattle.st_ids.proofs.Public.{not_in_nil, In-cases, in_subst, walk_from, walk_to, on_walk, no_loop, unique_tail, arrives, reach_refl, reach_trans, reach_arc}
 use Rattle.st_sides.proofs.FanLemmas.{beside_out, beside_in}
 use Rattle.st_sides.proofs.BoundaryLemmas.{IsNext, Swept, closed_reach}
 

@@ -8,9 +8,7 @@ use Rattle.st_map.specs.Embedded.{Embedded, edges, darts, at, next, phi, face}
 use Rattle.st_test.specs.Planar.{IsPlanarSt}
 use Rattle.st_sides.specs.Stretches.{forward, backward}
 use Rattle.st_sides.specs.Conditions.{AreOuts, AreIns}
-use Rattle.st_map.proofs.OrbitLemmas.{iterate-stays, steps, least_period, root-same, orbit-trans}
-use Rattle.st_map.proofs.EndLemmas.{at-tail, at-head}
-use Rattle.st_map.proofs.RotationLemmas.{next-permutes, same_vertex, at-iterate}
+use Rattle.st_map.proofs.Public.{iterate-stays, steps, least_period, root-same, orbit-trans, at-tail, at-head, next-permutes, same_vertex, at-iterate}
 use Rattle.st_sides.proofs.RunLemmas.{Runs, from_two, length-forward, length-backward, outs-at, outs-below, outs-each, outs-once, outs-follow, before-first, ins-at, ins-below, ins-each, ins-once, ins-follow, ins-begin}
 use Rattle.st_sides.proofs.FaceRuns.{at_st, perm_st, face_runs, vertex_runs, outer_low, outer_high, out_at_s, in_at_t, poles_apart}
 

@@ -7,7 +7,7 @@ use Rattle.std.proofs.lemmas.Bool.{cases_eq, cases_lt, cases_order, eq-eqb}
 use Rattle.st_ids.specs.Ends.{is_out}
 use Rattle.st_map.specs.Orbits.{iterate, Permutes}
 use Rattle.st_map.specs.Embedded.{Embedded, Touches, at, darts, face, faces, next, phi}
-use Rattle.st_map.proofs.OrbitLemmas.{iterate-stays, orbit-stays, steps, least_period}
+use Rattle.st_map.proofs.Public.{iterate-stays, orbit-stays, steps, least_period}
 use Rattle.st_test.specs.FaceNumbers.{is_least, orbit_number}
 use Rattle.st_test.specs.Planar.{IsPlanarSt}
 use Rattle.st_sides.specs.Filled.{AreStarts, Start, Begins, IsFilled, key, keys}

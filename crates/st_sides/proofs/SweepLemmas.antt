@@ -5,9 +5,7 @@ use Rattle.st_ids.specs.Lists.{In, here, there, Precedes, Linked, FirstIs}
 use Rattle.st_ids.specs.Walks.{Walk, stay, step, IsAcyclic}
 use Rattle.st_sides.specs.Sides.{SidesValue, edge_count, edge_tail, edge_head, face_left, face_right, outs, ins, low, high, left_path, right_path, left_of, primal, dual, IsInner, MeetsLow, IsSides}
 use Rattle.st_sides.specs.Sweep.{OnBoundary, IsLeftPart, BoundaryLaw, IsSweep, SweepLaw}
-use Rattle.st_ids.proofs.ListLemmas.{not_in_nil, In-cases, in_subst, in_dec, turn, turn_left, turn_right, in_turn, turn_once, turned_once, turned_apart, turn_before, turned_Precedes, Precedes-right, Precedes_trans, Precedes_irrefl, first_of, FirstIs-weaken}
-use Rattle.st_ids.proofs.WalkLemmas.{walk_from, walk_to, on_walk, no_loop, reach_refl, reach_trans}
-use Rattle.st_ids.proofs.FiniteLemmas.{IsWithin, down, length-le_from_below}
+use Rattle.st_ids.proofs.Public.{not_in_nil, In-cases, in_subst, in_dec, turn, turn_left, turn_right, in_turn, turn_once, turned_once, turned_apart, turn_before, turned_Precedes, Precedes-right, Precedes_trans, Precedes_irrefl, first_of, FirstIs-weaken, walk_from, walk_to, on_walk, no_loop, reach_refl, reach_trans, IsWithin, down, length-le_from_below}
 use Rattle.st_sides.proofs.FanLemmas.{beside_after, along}
 use Rattle.st_sides.proofs.BoundaryLemmas.{Swept, start, grow, swept_below, swept_zero, swept_once, boundary}
 use Rattle.st_sides.proofs.SearchLemmas.{NextLeftOf, search}

@@ -5,8 +5,7 @@ use Rattle.st_ids.specs.Lists.{In, here, there, Linked, NextTo, EndIs, LastIs}
 use Rattle.st_ids.specs.Walks.{Walk, stay, step, Reaches}
 use Rattle.st_sides.specs.Sides.{SidesValue, edge_count, edge_tail, edge_head, face_left, face_right, outs, ins, low, high, left_path, left_of, right_of, primal, dual, MeetsHigh, IsSides}
 use Rattle.st_sides.specs.Objects.{Object, vertex, edge, IsObject, bottom, top, left, right, Compared, before, after, leftward, rightward, Trichotomy}
-use Rattle.st_ids.proofs.ListLemmas.{not_in_nil, In-cases, First, first_of}
-use Rattle.st_ids.proofs.WalkLemmas.{on_walk, in_order, reach_refl, reach_trans, reach_arc, no_loop}
+use Rattle.st_ids.proofs.Public.{not_in_nil, In-cases, First, first_of, on_walk, in_order, reach_refl, reach_trans, reach_arc, no_loop}
 use Rattle.st_sides.proofs.BoundaryLemmas.{IsNext, Swept, start, grow, closed_reach}
 use Rattle.st_sides.proofs.SweepLemmas.{source_first_left, full}
 use Rattle.st_sides.proofs.ExclusiveLemmas.{to_sink, left_below, top_in, not_before_after, not_before_left, not_before_right, not_left_right}

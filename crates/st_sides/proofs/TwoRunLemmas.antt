@@ -3,7 +3,7 @@ use Rattle.std.proofs.Common.{◌≡◌, ℕ, zero, suc, ◌+◌, ◌-◌, ◌<�
 use Rattle.std.proofs.lemmas.Bool.{both_ways, not-true, not-false, false_from_ne_true}
 use Rattle.st_map.specs.Orbits.{iterate, Permutes, SameOrbit}
 use Rattle.st_sides.specs.Runs.{TwoRuns}
-use Rattle.st_map.proofs.OrbitLemmas.{steps, iterate-add, iterate-stays, least_period, first_place, change, orbit-trans, orbit-step}
+use Rattle.st_map.proofs.Public.{steps, iterate-add, iterate-stays, least_period, first_place, change, orbit-trans, orbit-step}
 
 module _ (n : ℕ) (f : ℕ → ℕ) (perm : Permutes n f) where
   -- Two runs. Where only one step c of an orbit leads from false to true, the orbit from f c on is a run of true and

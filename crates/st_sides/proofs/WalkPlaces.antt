@@ -3,7 +3,7 @@ use Rattle.std.proofs.Common.{◌≡◌, ℕ, zero, suc, ◌+◌, ◌-◌, ◌<�
 use Rattle.std.proofs.lemmas.List.{get_or-drop}
 use Rattle.st_map.specs.Embedded.{Embedded, edges, tail, head}
 use Rattle.st_ids.specs.Walks.{stay, step}
-use Rattle.st_ids.proofs.WalkLemmas.{walk_append}
+use Rattle.st_ids.proofs.Public.{walk_append}
 use Rattle.st_sides.specs.GraphWalks.{IsWalk, HasNoCycle}
 
 pub walk-append : (g : Embedded) (u v w : ℕ) (es fs : List ℕ) → IsWalk g u es v → IsWalk g v fs w → IsWalk g u (es ++ fs) w

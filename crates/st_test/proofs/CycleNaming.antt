@@ -5,11 +5,11 @@ use Rattle.std.proofs.lemmas.Bool.{cases_lt, both_ways, cond-true, cond-false, l
 use Rattle.st_ids.specs.Graph.{tail_of, AreWithin, arcs_of}
 use Rattle.st_test.specs.Poles.{graph_of}
 use Rattle.st_map.specs.Orbits.{iterate}
-use Rattle.st_map.proofs.OrbitLemmas.{iterate-add, steps}
+use Rattle.st_map.proofs.Public.{iterate-add, steps}
 use Rattle.st_ids.specs.Walks.{Walk, stay, step}
 use Rattle.st_test.specs.Stripping.{IsStripped}
 use Rattle.st_test.proofs.StripSteps.{short}
-use Rattle.st_test.specs.Cycle.{IsBack, IsNamedCycle, IsLoop, back_list}
+use Rattle.st_test.specs.Cycle.{IsFirstEdgeBack, IsNamedCycle, IsLoop, back_list}
 use Rattle.st_test.specs.BackTables.{is_left, AreLeft, ComesIn, AreBacks, IsClosed, IsTrail, IsLeastPlace, parent, looped}
 use Rattle.st_test.proofs.LongWalks.{left_long, long_left, closed}
 use Rattle.st_test.proofs.BackSteps.{back_list-same, back_list-length}
@@ -40,7 +40,7 @@ module _ (n : ℕ) (ends : List (ℕ × ℕ)) (order es : List ℕ) (left : List
   comes : (k : ℕ) → ComesIn ends left (way ends back start k) (gone ends back start k)
   comes k = bk.found (way ends back start k) (both k).0 (back_lt k)
 
-  is_back : (k : ℕ) → IsBack (graph_of n ends) (way ends back start k) (gone ends back start k)
+  is_back : (k : ℕ) → IsFirstEdgeBack (graph_of n ends) (way ends back start k) (gone ends back start k)
   is_back k = record {
     there = back_lt k;
     into = (comes k).into;

@@ -7,7 +7,7 @@ use Rattle.st_ids.specs.Walks.{IsAcyclic}
 use Rattle.st_ids.specs.declared.ids.VertexId.{VertexId}
 use Rattle.st_test.specs.Cycle.{IsLoop}
 use Rattle.st_test.specs.Poles.{NoneIn, NoneOut, ArePoles}
-use Rattle.st_test.specs.PolesAnswer.{AreInOrder, AreFirstTwo, IsFirstFault, IsPolesAnswer}
+use Rattle.st_test.specs.PolesAnswer.{AreInOrder, AreFirstTwo, IsFirstDigraphFault, IsPolesAnswer}
 use Rattle.st_test.specs.declared.digraph_fault.Poles.{Poles}
 use Rattle.st_test.specs.declared.digraph_fault.DigraphFault.{DigraphFault}
 use Rattle.st_test.specs.declared.digraph_fault.DigraphFault.TheVariants.{TooFew, Cycle, Sources, Sinks, NoMemory}
@@ -97,7 +97,7 @@ three f a b k c d l p q r = ap (λ z. f z b k) p ∙ ap (λ z. f c z k) q ∙ ap
 
 -- ---- a fault is the only one
 module _ (g : Graph) where
-  fault_same : (x y : DigraphFault) → IsFirstFault g x → IsFirstFault g y → x ≢ NoMemory → y ≢ NoMemory → x ≡ y
+  fault_same : (x y : DigraphFault) → IsFirstDigraphFault g x → IsFirstDigraphFault g y → x ≢ NoMemory → y ≢ NoMemory → x ≡ y
   fault_same NoMemory y h k nx ny = absurd (nx refl)
   fault_same (TooFew a) NoMemory h k nx ny = absurd (ny refl)
   fault_same (TooFew a) (TooFew b) h k nx ny = ap TooFew (h.0 ∙ sym k.0)
@@ -127,7 +127,7 @@ module _ (g : Graph) where
       (count_same g.vertices (NoneOut g) a.0 b.0 m c.0 d.0 l h.3 k.3)
 
   -- where there are poles there is no fault
-  no_fault : (s t : ℕ) (x : DigraphFault) → ArePoles g s t → IsFirstFault g x → x ≢ NoMemory → ⊥
+  no_fault : (s t : ℕ) (x : DigraphFault) → ArePoles g s t → IsFirstDigraphFault g x → x ≢ NoMemory → ⊥
   no_fault s t NoMemory p h nx = nx refl
   no_fault s t (TooFew a) p h nx = few h.1 p.two
   no_fault s t (Cycle es) p h nx = no_loop g es h.2 p.no_cycle

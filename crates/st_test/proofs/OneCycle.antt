@@ -2,11 +2,11 @@
 use Rattle.std.proofs.Common.{◌≡◌, ℕ, zero, suc, ◌-◌, ◌<◌, ◌≤◌, inl, inr, List, sym, ap, ◌∙◌, subst, arith}
 use Rattle.std.proofs.lemmas.Bool.{cases_order}
 use Rattle.st_ids.specs.Graph.{Graph, tail_of}
-use Rattle.st_test.specs.Cycle.{IsBack, IsNamedCycle, back_list}
+use Rattle.st_test.specs.Cycle.{IsFirstEdgeBack, IsNamedCycle, back_list}
 use Rattle.st_test.proofs.BackSteps.{back_list-same}
 
 -- one goes back from a vertex along one edge
-back_same : (g : Graph) (v e d : ℕ) → IsBack g v e → IsBack g v d → e ≡ d
+back_same : (g : Graph) (v e d : ℕ) → IsFirstEdgeBack g v e → IsFirstEdgeBack g v d → e ≡ d
 back_same g v e d h k = elim (cases_order e d) [
   | inl q ↦ q
   | inr o ↦ elim o [
@@ -26,7 +26,7 @@ module _ (g : Graph) (es ds : List ℕ) (h : IsNamedCycle g es) (k : IsNamedCycl
   ]
 
   b_same : (x : ℕ) → h.c x ≡ k.c x → h.b x ≡ k.b x
-  b_same x q = back_same g (k.c x) (h.b x) (k.b x) (subst (λ z. IsBack g z (h.b x)) q (h.back x)) (k.back x)
+  b_same x q = back_same g (k.c x) (h.b x) (k.b x) (subst (λ z. IsFirstEdgeBack g z (h.b x)) q (h.back x)) (k.back x)
 
   c_same : (x : ℕ) → h.c x ≡ k.c x
   c_same zero = first_same

@@ -4,9 +4,10 @@ use Rattle.std.proofs.lemmas.Bool.{cases_eq, eq-eqb, eqb-true}
 use Rattle.std.proofs.lemmas.List.{get_or_default}
 use Rattle.st_ids.specs.Graph.{tail_of, head_of, AreWithin}
 use Rattle.st_map.specs.Counting.{count_below}
-use Rattle.st_map.proofs.SumLemmas.{none_counted, counted_place}
+use Rattle.st_map.proofs.Public.{none_counted, counted_place}
+use Rattle.st_map.specs.Tables.{enters, leaves}
 use Rattle.st_test.specs.Poles.{IsOnlySource, IsOnlySink, NoneIn, NoneOut, graph_of}
-use Rattle.st_test.specs.Stripping.{IsStripped, AreDegrees, AreOutDegrees, enters, leaves}
+use Rattle.st_test.specs.Stripping.{IsStripped, AreInDegrees, AreOutDegrees}
 use Rattle.st_test.specs.StripState.{AreZeros}
 use Rattle.st_test.proofs.StripSteps.{short}
 use Rattle.st_test.specs.BackTables.{AllListed}
@@ -15,7 +16,7 @@ use Rattle.st_test.specs.PolesAnswer.{AreInOrder, AreFirstTwo}
 zero_or : (k : ℕ) → (1 ≤ k → ⊥) → k ≡ 0
 zero_or k h = elim (cases_eq k 0) [ inl e ↦ e | inr n ↦ absurd (h (omega arith)) ]
 
-pub are_sources : (n : ℕ) (ends : List (ℕ × ℕ)) (degree vs : List ℕ) → AreDegrees n ends degree → AreZeros n degree vs → AreInOrder n (NoneIn (graph_of n ends)) vs
+pub are_sources : (n : ℕ) (ends : List (ℕ × ℕ)) (degree vs : List ℕ) → AreInDegrees n ends degree → AreZeros n degree vs → AreInOrder n (NoneIn (graph_of n ends)) vs
 are_sources n ends degree vs d z = record {
   only = λ k l. ((z.only k l).0, λ e le q. none_counted (length ends) (enters ends (get_or vs k 0)) (sym (d.each (get_or vs k 0) (z.only k l).0) ∙ (z.only k l).1) e le (eq-eqb (head_of ends e) (get_or vs k 0) q));
   each = λ v l none. z.each v l (d.each v l ∙ zero_or (count_below (length ends) (enters ends v)) (λ some.

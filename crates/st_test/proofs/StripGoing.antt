@@ -5,9 +5,10 @@ use Rattle.std.proofs.Math.ListN.{set}
 use Rattle.std.proofs.lemmas.List.{length_push, get_or_push, get_or_append_left}
 use Rattle.std.proofs.lemmas.Bool.{cases_eq, cases_lt, cases_Bool, cases_order, eq-eqb, eqb-true, cond-true, cond-false, and_parts, and_from, both_ways, false_from_ne_true, not-true}
 use Rattle.st_ids.specs.Graph.{tail_of, head_of, AreWithin}
-use Rattle.st_map.proofs.SumLemmas.{none_counted, counted_place}
-use Rattle.st_test.specs.Stripping.{last_below, enters, leaves, AreDegrees, IsStripped}
-use Rattle.st_test.specs.StripState.{member, left_into, State, Released, IsTurn, IsFront, IsReleasing, AreZeros, AreGoing}
+use Rattle.st_map.proofs.Public.{none_counted, counted_place}
+use Rattle.st_map.specs.Tables.{enters, leaves}
+use Rattle.st_test.specs.Stripping.{last_below, AreInDegrees, IsStripped}
+use Rattle.st_test.specs.StripState.{member, left_into, StripState, Released, IsTurn, IsFront, IsReleasing, AreZeros, AreGoing}
 use Rattle.st_test.proofs.StripSteps.{member_old, member_new, member_place, last_below-le, last_below-passes, last_below-none, count_same, short, positive, goes_on, takes}
 
 -- ---- the vertices without an edge in
@@ -221,7 +222,7 @@ module _ (n : ℕ) (ends : List (ℕ × ℕ)) (place : ℕ) (first order es degr
     }
 
 -- ---- the whole
-pub whole_none : (n : ℕ) (ends : List (ℕ × ℕ)) (degree order : List ℕ) → AreDegrees n ends degree → AreZeros n degree order → IsReleasing n ends 0 order [] degree
+pub whole_none : (n : ℕ) (ends : List (ℕ × ℕ)) (degree order : List ℕ) → AreInDegrees n ends degree → AreZeros n degree order → IsReleasing n ends 0 order [] degree
 whole_none n ends degree order d z = record {
   state = record {
     size = d.size;
@@ -245,7 +246,7 @@ whole_none n ends degree order d z = record {
   };
 }
 
-pub order-short : (n : ℕ) (ends : List (ℕ × ℕ)) (order es degree : List ℕ) → State n ends order es degree → length order ≤ n
+pub order-short : (n : ℕ) (ends : List (ℕ × ℕ)) (order es degree : List ℕ) → StripState n ends order es degree → length order ≤ n
 order-short n ends order es degree h = short n order (λ k l. (h.vertices k l).0) h.apart
 
 pub whole_all : (n : ℕ) (ends : List (ℕ × ℕ)) (i : ℕ) (order es degree : List ℕ) → IsReleasing n ends i order es degree → length order ≤ i → IsStripped n ends order es

@@ -6,11 +6,12 @@ use Rattle.std.proofs.lemmas.List.{get_or-set_same, get_or-set_other, length-set
 use Rattle.std.proofs.lemmas.Bool.{cases_eq, cases_lt, cases_Bool, eq-eqb, ne_eqb, eqb-true, cond-true, cond-false, and_from, and_right, and_left, not_from_false, not_from_true, or_left, or_right, or_cases, both_ways}
 use Rattle.st_ids.specs.Graph.{tail_of, head_of, AreWithin}
 use Rattle.st_map.specs.Counting.{bit, count_below}
-use Rattle.st_map.proofs.SumLemmas.{total-same, count_less, none_counted, some_counted}
-use Rattle.st_ids.proofs.FiniteLemmas.{length-le_from_below}
+use Rattle.st_map.proofs.Public.{total-same, count_less, none_counted, some_counted}
+use Rattle.st_ids.proofs.Public.{length-le_from_below}
+use Rattle.st_map.specs.Tables.{enters}
 use Rattle.st_test.proofs.PlaceLemmas.{Contains-from_In, NoRepeat-from_places}
-use Rattle.st_test.specs.Stripping.{last_below, enters}
-use Rattle.st_test.specs.StripState.{member, left_into, State}
+use Rattle.st_test.specs.Stripping.{last_below}
+use Rattle.st_test.specs.StripState.{member, left_into, StripState}
 
 -- ---- members
 pub member_old : (xs : List ℕ) (y x : ℕ) → member xs x ≡ true → member (xs ++ y ∷ []) x ≡ true
@@ -96,7 +97,7 @@ short n xs below apart = length-le_from_below n xs (NoRepeat-from_places xs apar
     default (y ∷ ys) (suc k) a b l = default ys k a b (omega arith)
 
 -- ---- one edge goes
-module _ (n : ℕ) (ends : List (ℕ × ℕ)) (order es degree : List ℕ) (within : AreWithin n ends) (st : State n ends order es degree) (e : ℕ) (le : e < length ends)
+module _ (n : ℕ) (ends : List (ℕ × ℕ)) (order es degree : List ℕ) (within : AreWithin n ends) (st : StripState n ends order es degree) (e : ℕ) (le : e < length ends)
     (new : member es e ≡ false) (i : ℕ) (li : i < length order) (at : get_or order i 0 ≡ tail_of ends e)
     (froms : (p : ℕ) → p < length es → (j : ℕ) × (j < length order) × (get_or order j 0 ≡ tail_of ends (get_or es p 0))) where
   head_in : head_of ends e < n
@@ -190,7 +191,7 @@ module _ (n : ℕ) (ends : List (ℕ × ℕ)) (order es degree : List ℕ) (with
   ]
 
   -- edges still come to the head
-  pub goes_on : (d : ℕ) → d + 1 ≡ get_or degree (head_of ends e) 0 → (d ≡ 0 → ⊥) → State n ends order (es ++ e ∷ []) (set degree (head_of ends e) d)
+  pub goes_on : (d : ℕ) → d + 1 ≡ get_or degree (head_of ends e) 0 → (d ≡ 0 → ⊥) → StripState n ends order (es ++ e ∷ []) (set degree (head_of ends e) d)
   goes_on d de nz = record {
     size = length-set degree (head_of ends e) d ∙ st.size;
     degrees = new-degrees d de;
@@ -234,7 +235,7 @@ module _ (n : ℕ) (ends : List (ℕ × ℕ)) (order es degree : List ℕ) (with
       ]
 
   -- the head is next
-  pub takes : (d : ℕ) → d + 1 ≡ get_or degree (head_of ends e) 0 → d ≡ 0 → State n ends (order ++ head_of ends e ∷ []) (es ++ e ∷ []) (set degree (head_of ends e) d)
+  pub takes : (d : ℕ) → d + 1 ≡ get_or degree (head_of ends e) 0 → d ≡ 0 → StripState n ends (order ++ head_of ends e ∷ []) (es ++ e ∷ []) (set degree (head_of ends e) d)
   takes d de z = record {
     size = length-set degree (head_of ends e) d ∙ st.size;
     degrees = new-degrees d de;

@@ -3,11 +3,9 @@ use Rattle.std.proofs.Common.{ℕ, zero, suc, Bool, true, List, [], ◌∷◌, l
 use Rattle.st_ids.specs.Graph.{Graph, tail_of, head_of, HasEnds, arcs_of}
 use Rattle.st_ids.specs.Lists.{In, here, there, Lists, Precedes}
 use Rattle.st_ids.specs.Walks.{IsAcyclic}
-use Rattle.st_ids.proofs.FiniteLemmas.{down}
-use Rattle.st_ids.proofs.ListLemmas.{in_dec}
+use Rattle.st_ids.proofs.Public.{down, in_dec}
 use Rattle.st_map.specs.Counting.{count_below}
-use Rattle.st_map.proofs.OrderLemmas.{count-le_length}
-use Rattle.st_map.proofs.SumLemmas.{total-one}
+use Rattle.st_map.proofs.Public.{count-le_length, total-one}
 use Rattle.st_test.specs.Stripping.{IsStripped}
 use Rattle.st_test.specs.Topological.{AreOrdered, IsTopologicalOrder}
 use Rattle.st_test.proofs.PlaceLemmas.{NoRepeat-from_places}

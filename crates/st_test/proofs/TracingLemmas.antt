@@ -8,8 +8,7 @@ use Rattle.st_map.specs.Counting.{bit, count_below}
 use Rattle.st_map.specs.Orbits.{iterate, SameOrbit, Permutes}
 use Rattle.st_map.specs.Embedded.{Embedded, darts, phi, face, faces}
 use Rattle.st_map.specs.Laws.{FacesAre}
-use Rattle.st_map.proofs.SumLemmas.{count-le}
-use Rattle.st_map.proofs.OrbitLemmas.{iterate-step, iterate-mod, orbit-short, orbit-sym, orbit-stays}
+use Rattle.st_map.proofs.Public.{count-le, iterate-step, iterate-mod, orbit-short, orbit-sym, orbit-stays}
 use Rattle.st_test.specs.FaceNumbers.{is_least, orbit_number, AreFaces}
 use Rattle.st_test.specs.Tracing.{first_within, IsTraced, AreTracedBelow}
 

@@ -3,14 +3,13 @@ use Rattle.std.proofs.Common.{◌≡◌, ℕ, zero, suc, ◌<◌, ◌≤◌, inl
 use Rattle.std.proofs.lemmas.Bool.{cases_order, eq-eqb, eqb-true, both_ways}
 use Rattle.st_ids.specs.Graph.{Graph, HasEnds, arcs_of, tail_of, head_of}
 use Rattle.st_ids.specs.Walks.{stay, step}
-use Rattle.st_ids.proofs.FiniteLemmas.{IsWithin, down}
+use Rattle.st_ids.proofs.Public.{IsWithin, down}
 use Rattle.st_map.specs.Counting.{bit, count_below}
 use Rattle.st_map.specs.Orbits.{SameOrbit}
 use Rattle.st_map.specs.Embedded.{Embedded, Touches, at, darts, face, faces, phi}
 use Rattle.st_map.specs.Laws.{FacesAre}
 use Rattle.st_map.specs.Orders.{IsEdgeAt}
-use Rattle.st_map.proofs.SumLemmas.{count-le}
-use Rattle.st_map.proofs.OrbitLemmas.{orbit-stays, some_or_none}
+use Rattle.st_map.proofs.Public.{count-le, orbit-stays, some_or_none}
 use Rattle.st_test.specs.FaceNumbers.{is_least, orbit_number}
 use Rattle.st_test.specs.Planar.{AcyclicIsLoopless}
 use Rattle.st_test.specs.Poles.{ArePoles}

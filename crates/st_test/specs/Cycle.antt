@@ -1,10 +1,10 @@
 -- The cycle that a refusal names.
 -- Letters: g graph, v vertex, e edge, es list of edges, all by number; k number of steps back.
---   EndsLong g v         a walk of as many edges as there are vertices ends at v
---   IsBack g v e         e is the edge along which one goes back from v
---   back_list b f k      the edges b (f + k - 1), .., b (f + 1), b f
---   IsNamedCycle g es    es is the cycle that is named
---   IsLoop g es          es is a closed walk of at least one edge
+--   EndsLong g v           a walk of as many edges as there are vertices ends at v
+--   IsFirstEdgeBack g v e  e is the edge along which one goes back from v
+--   back_list b f k        the edges b (f + k - 1), .., b (f + 1), b f
+--   IsNamedCycle g es      es is the cycle that is named
+--   IsLoop g es            es is a closed walk of at least one edge
 -- Stated by walks; the code takes vertices without an edge in away, and what is left are those at which long walks end.
 use Rattle.std.specs.Prelude.{ℕ, zero, suc, ◌≡◌, ◌≢◌, ◌+◌, ◌-◌, ◌<◌, ◌≤◌, List, [], ◌∷◌, length}
 use Rattle.st_ids.specs.Graph.{Graph, tail_of, head_of, arcs_of}
@@ -15,7 +15,7 @@ abbrev pub EndsLong : Graph → ℕ → Type 0
 EndsLong g v = (u : ℕ) × (es : List ℕ) × Walk (arcs_of g) u es v × (length es ≡ g.vertices)
 
 -- e is the first edge in file order that comes to v from a vertex at which such a walk ends
-pub record IsBack (g : Graph) (v e : ℕ) : Type 0 where
+pub record IsFirstEdgeBack (g : Graph) (v e : ℕ) : Type 0 where
   pub there : e < length g.ends
   pub into : head_of g.ends e ≡ v
   pub from : EndsLong g (tail_of g.ends e)
@@ -37,7 +37,7 @@ pub record IsNamedCycle (g : Graph) (es : List ℕ) : Type 0 where
   pub f : ℕ
   pub begins : EndsLong g (c 0)
   pub begins_first : (v : ℕ) → v < c 0 → EndsLong g v → ⊥
-  pub back : (k : ℕ) → IsBack g (c k) (b k)
+  pub back : (k : ℕ) → IsFirstEdgeBack g (c k) (b k)
   pub goes : (k : ℕ) → c (suc k) ≡ tail_of g.ends (b k)
   pub loops : i < j
   pub again : c j ≡ c i

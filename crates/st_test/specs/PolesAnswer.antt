@@ -1,11 +1,11 @@
 -- What the tests on a directed graph answer: the first that fails, with its evidence, or else the poles.
 -- The tests, in their order: at least two vertices; no cycle; one vertex without an edge in; one without an edge out.
 -- Letters: g graph, n number of vertices, P property of vertices, vs list of vertices.
---   AreInOrder n P vs    vs are the vertices with P, in file order
---   AreFirstTwo          the first two vertices with P, and how many have it
---   IsFirstFault g f     f names the first test that fails
---   IsPolesAnswer g r    r is the answer for g
---   OnePolesAnswer       each graph has at most one answer
+--   AreInOrder n P vs        vs are the vertices with P, in file order
+--   AreFirstTwo              the first two vertices with P, and how many have it
+--   IsFirstDigraphFault g f  f names the first test that fails
+--   IsPolesAnswer g r        r is the answer for g
+--   OnePolesAnswer           each graph has at most one answer
 -- Each case has all tests before it passed. Want of memory alone is free.
 use Rattle.std.specs.Prelude.{ℕ, ◌≡◌, ◌≢◌, ◌<◌, ◌≤◌, List, length, slice_index, Result, Ok, Err}
 use Rattle.st_ids.specs.Graph.{Graph, arcs_of}
@@ -32,17 +32,17 @@ pub record AreFirstTwo (n : ℕ) (P : ℕ → Type 0) (first second count : ℕ)
   pub is_second : slice_index all 1 ≡ second
 
 -- the first test that fails, with its evidence
-abbrev pub IsFirstFault : Graph → DigraphFault → Type 0
-IsFirstFault g (TooFew k) = (k ≡ g.vertices) × (g.vertices < 2)
-IsFirstFault g (Cycle es) = (2 ≤ g.vertices) × IsNamedCycle g es × IsLoop g es
-IsFirstFault g (Sources a b k) = (2 ≤ g.vertices) × IsAcyclic (arcs_of g) × AreFirstTwo g.vertices (NoneIn g) a.0 b.0 k
-IsFirstFault g (Sinks a b k) = (2 ≤ g.vertices) × IsAcyclic (arcs_of g) × ((s : ℕ) × IsOnlySource g s) × AreFirstTwo g.vertices (NoneOut g) a.0 b.0 k
-IsFirstFault g NoMemory = Unit {0}
+abbrev pub IsFirstDigraphFault : Graph → DigraphFault → Type 0
+IsFirstDigraphFault g (TooFew k) = (k ≡ g.vertices) × (g.vertices < 2)
+IsFirstDigraphFault g (Cycle es) = (2 ≤ g.vertices) × IsNamedCycle g es × IsLoop g es
+IsFirstDigraphFault g (Sources a b k) = (2 ≤ g.vertices) × IsAcyclic (arcs_of g) × AreFirstTwo g.vertices (NoneIn g) a.0 b.0 k
+IsFirstDigraphFault g (Sinks a b k) = (2 ≤ g.vertices) × IsAcyclic (arcs_of g) × ((s : ℕ) × IsOnlySource g s) × AreFirstTwo g.vertices (NoneOut g) a.0 b.0 k
+IsFirstDigraphFault g NoMemory = Unit {0}
 
 -- the poles, or the first test that fails
 abbrev pub IsPolesAnswer : Graph → Result Poles DigraphFault → Type 0
 IsPolesAnswer g (Ok p) = ArePoles g p.source.0 p.sink.0
-IsPolesAnswer g (Err f) = IsFirstFault g f
+IsPolesAnswer g (Err f) = IsFirstDigraphFault g f
 
 -- Two answers for one graph are the same, want of memory aside. So each answer comes exactly where it is the answer.
 abbrev pub OnePolesAnswer : Type 0

@@ -2,7 +2,7 @@
 -- Letters: n number of vertices, order the vertices taken away so far, es the edges gone so far, degree how many edges
 -- still come to each vertex, place the place in the order that is looked at, link one more than the next edge that goes.
 --   member, left_into        whether a number is in a list; whether an edge comes to a vertex and is not gone
---   State                    the order and the degrees fit the edges that are gone
+--   StripState               the order and the degrees fit the edges that are gone
 --   IsTurn, Released         which edges are gone: those out of earlier places, and the later ones out of this place
 --   IsFront                  a list is the front of another
 --   IsReleasing, AreGoing    what holds between two vertices, and between two edges out of one vertex
@@ -11,7 +11,8 @@ use Rattle.std.specs.Prelude.{ℕ, ◌≡◌, ◌≢◌, ◌⊎◌, ◌<◌, ◌
 use Rattle.std.specs.Prelude.{not}
 use Rattle.st_ids.specs.Graph.{tail_of, head_of}
 use Rattle.st_map.specs.Counting.{count_below}
-use Rattle.st_test.specs.Stripping.{enters, leaves, last_below}
+use Rattle.st_map.specs.Tables.{enters, leaves}
+use Rattle.st_test.specs.Stripping.{last_below}
 
 -- whether x is in the list
 abbrev pub member : List ℕ → ℕ → Bool
@@ -23,7 +24,7 @@ abbrev pub left_into : List (ℕ × ℕ) → List ℕ → ℕ → ℕ → Bool
 left_into ends es v e = enters ends v e && not (member es e)
 
 -- The edges of es are gone. The order has the vertices to which none of the others comes.
-pub record State (n : ℕ) (ends : List (ℕ × ℕ)) (order es degree : List ℕ) : Type 0 where
+pub record StripState (n : ℕ) (ends : List (ℕ × ℕ)) (order es degree : List ℕ) : Type 0 where
   pub size : length degree ≡ n
   pub degrees : (v : ℕ) → v < n → slice_index degree v ≡ count_below (length ends) (left_into ends es v)
   pub zeros : (v : ℕ) → v < n → slice_index degree v ≡ 0 → (k : ℕ) × (k < length order) × (slice_index order k ≡ v)
@@ -49,7 +50,7 @@ pub record IsFront (xs ys : List ℕ) : Type 0 where
 
 -- what holds before the edges out of the vertex at place i, and what holds after them
 pub record IsReleasing (n : ℕ) (ends : List (ℕ × ℕ)) (i : ℕ) (order es degree : List ℕ) : Type 0 where
-  pub state : State n ends order es degree
+  pub state : StripState n ends order es degree
   pub released : Released ends i (length ends) order es
 
 -- the vertices with degree 0, from the first to the last
@@ -65,7 +66,7 @@ pub record IsBefore (ends : List (ℕ × ℕ)) (before : List ℕ) : Type 0 wher
 
 -- What holds while the edges out of the vertex at a place go: those from link on are gone.
 pub record AreGoing (n : ℕ) (ends : List (ℕ × ℕ)) (place : ℕ) (first order es degree : List ℕ) (link : ℕ) : Type 0 where
-  pub state : State n ends order es degree
+  pub state : StripState n ends order es degree
   pub released : Released ends place link order es
   pub front : IsFront first order
   pub within : link ≤ length ends

@@ -1,34 +1,28 @@
 -- Vertices taken away one by one, each when no edge comes to it from a vertex that is left.
 -- Letters: n number of vertices, ends the tail and head of each edge, v vertex, e edge, es list of edges.
---   last_below n p              one more than the last number below n that passes p, and 0 where none does
---   leaves, enters              whether an edge leaves a vertex, or comes to it
---   IsLinked                    the edges out of each vertex as links, from the last to the first
---   AreDegrees, AreOutDegrees   how many edges come to each vertex, or leave it
---   IsStripped                  the vertices that were taken away, in that order, with the edges out of them
+--   last_below n p               one more than the last number below n that passes p, and 0 where none does
+--   AreChains                    the edges out of each vertex as links, from the last to the first
+--   AreInDegrees, AreOutDegrees  how many edges come to each vertex, or leave it
+--   IsStripped                   the vertices that were taken away, in that order, with the edges out of them
 use Rattle.std.specs.Prelude.{ℕ, zero, suc, ◌≡◌, ◌≢◌, ◌<◌, ◌==◌, Bool, cond, List, length, slice_index}
 use Rattle.st_ids.specs.Graph.{tail_of, head_of}
 use Rattle.st_map.specs.Counting.{count_below}
+use Rattle.st_map.specs.Tables.{enters, leaves}
 
 -- one more than the last number below n that passes, and 0 where none does
 abbrev pub last_below : ℕ → (ℕ → Bool) → ℕ
 last_below zero p = zero
 last_below (suc n) p = cond (p n) (suc n) (last_below n p)
 
-abbrev pub leaves : List (ℕ × ℕ) → ℕ → ℕ → Bool
-leaves ends v e = tail_of ends e == v
-
-abbrev pub enters : List (ℕ × ℕ) → ℕ → ℕ → Bool
-enters ends v e = head_of ends e == v
-
 -- the edges out of a vertex, from the last to the first
-pub record IsLinked (n : ℕ) (ends : List (ℕ × ℕ)) (last before : List ℕ) : Type 0 where
+pub record AreChains (n : ℕ) (ends : List (ℕ × ℕ)) (last before : List ℕ) : Type 0 where
   pub last_size : length last ≡ n
   pub before_size : length before ≡ length ends
   pub lasts : (v : ℕ) → v < n → slice_index last v ≡ last_below (length ends) (leaves ends v)
   pub befores : (e : ℕ) → e < length ends → slice_index before e ≡ last_below e (leaves ends (tail_of ends e))
 
 -- how many edges come to each vertex
-pub record AreDegrees (n : ℕ) (ends : List (ℕ × ℕ)) (degree : List ℕ) : Type 0 where
+pub record AreInDegrees (n : ℕ) (ends : List (ℕ × ℕ)) (degree : List ℕ) : Type 0 where
   pub size : length degree ≡ n
   pub each : (v : ℕ) → v < n → slice_index degree v ≡ count_below (length ends) (enters ends v)
 

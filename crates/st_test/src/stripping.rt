@@ -4,7 +4,8 @@
 //! After A. B. Kahn, Topological Sorting of Large Networks (1962).
 ghost use Rattle.std.specs.Prelude.{◌≡◌, ◌+◌, ◌<◌, ◌^◌, length, slice_index, IfOk, OnOk};
 ghost use Rattle.st_ids.specs.Graph.{AreWithin};
-ghost use Rattle.st_test.specs.Stripping.{IsLinked, AreDegrees, AreOutDegrees, IsStripped, last_below, leaves};
+ghost use Rattle.st_map.specs.Tables.{leaves};
+ghost use Rattle.st_test.specs.Stripping.{AreChains, AreInDegrees, AreOutDegrees, IsStripped, last_below};
 ghost use Rattle.st_test.specs.StripState.{IsFront, IsReleasing, AreZeros, IsBefore};
 
 use std::alloc::{AllocError, Global};
@@ -29,7 +30,7 @@ pub struct Order {
 pub fn link_edges(alloc: Global, n: u32, ends: &[(u32, u32)]) -> Result<Links, AllocError>
     requires within { AreWithin n ends.now }
     requires few { length ends.now < 2 ^ 30 }
-    ensures { IfOk result (λ l. IsLinked n ends.now l.last.items l.before.items) }
+    ensures { IfOk result (λ l. AreChains n ends.now l.last.items l.before.items) }
 {
     let mut last = vec![in alloc; 0u32; n as usize]?;
     let mut before = Vec::with_capacity(alloc, ends.len())?;
@@ -46,7 +47,7 @@ pub fn link_edges(alloc: Global, n: u32, ends: &[(u32, u32)]) -> Result<Links, A
 pub fn count_edges_in(alloc: Global, n: u32, ends: &[(u32, u32)]) -> Result<Vec<u32>, AllocError>
     requires within { AreWithin n ends.now }
     requires few { length ends.now < 2 ^ 30 }
-    ensures { IfOk result (λ v. AreDegrees n ends.now v.items) }
+    ensures { IfOk result (λ v. AreInDegrees n ends.now v.items) }
 {
     let mut degree = vec![in alloc; 0u32; n as usize]?;
     for e in 0..ends.len() {

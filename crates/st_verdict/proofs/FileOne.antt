@@ -4,11 +4,11 @@ use Rattle.std.specs.Prelude.{Ok, Err}
 use Rattle.st_ids.specs.declared.limits.TheConstants.{MOST_BYTES, MOST_EDGES, MOST_VERTICES}
 use Rattle.gml_core.specs.Trees.{Entries}
 use Rattle.gml_core.specs.Reading.{IsFirstFault}
-use Rattle.gml_core.proofs.Unique.{one_tree, one_first, not_both}
+use Rattle.gml_core.proofs.Public.{one_tree, one_first, not_both}
 use Rattle.st_input.specs.InputGraph.{InputGraph, IsConsistent}
 use Rattle.st_input.specs.FirstFault.{shape_fault}
 use Rattle.st_input.specs.declared.fault.ShapeFault.{ShapeFault}
-use Rattle.st_input.proofs.LawLemmas.{fits_together}
+use Rattle.st_input.proofs.Public.{fits_together}
 use Rattle.st_report.specs.declared.stop.Refusal.TheVariants.{Gml, Shape}
 use Rattle.st_verdict.specs.File.{IsFew, IsTree, IsGraph, IsGraphIn, IsGraphWithin}
 use Rattle.st_verdict.specs.Stages.{IsOne}

@@ -1,6 +1,6 @@
-pub mod StageLemmas
-pub mod AnswerLemmas
-pub mod VerdictLemmas
-pub mod VerdictOne
-pub mod FileOne
+mod StageLemmas
+mod AnswerLemmas
+mod VerdictLemmas
+mod VerdictOne
+mod FileOne
 pub mod Public

@@ -18,7 +18,7 @@ use Rattle.st_report.specs.declared.stop.Refusal.{Refusal}
 use Rattle.st_report.specs.declared.stop.Stop.{Stop}
 use Rattle.st_verdict.specs.Stages.{refuses, goes_on}
 use Rattle.st_verdict.specs.Stops.{StopsAt, Gives}
-use Rattle.st_verdict.specs.Verdict.{IsAccepted, IsFound, outer_in}
+use Rattle.st_verdict.specs.Verdict.{IsAccepted, IsFound, outer_or_first}
 
 -- ---- orders
 same_default : {X : Type 0} (xs : List X) (k : ℕ) (a b : X) → k < length xs → get_or xs k a ≡ get_or xs k b
@@ -57,7 +57,7 @@ pub item_within : (items : List EdgeId) (n i : ℕ) (d : EdgeId) → i < length 
 item_within items n i d l all = let at : get_or (numbers items) i 0 ≡ (get_or items i d).0 = get_or-map edge_number items i d 0 l in let h : get_or (numbers items) i 0 < n = all i l in omega arith
 
 -- ---- the outer end
-pub outer_same : (g : InputGraph) (m : Embedded) (s : ℕ) (o : Option Dart) → option_map (λ d. d.0) o ≡ g.outer → outer_of m s o ≡ outer_in g m s
+pub outer_same : (g : InputGraph) (m : Embedded) (s : ℕ) (o : Option Dart) → option_map (λ d. d.0) o ≡ g.outer → outer_of m s o ≡ outer_or_first g m s
 outer_same g m s None h = ap (λ (z : Option ℕ). unwrap_or z (outer_of m s None)) h
 outer_same g m s (Some d) h = ap (λ (z : Option ℕ). unwrap_or z (outer_of m s None)) h
 

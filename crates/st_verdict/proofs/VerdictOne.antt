@@ -21,7 +21,7 @@ use Rattle.st_report.specs.declared.stop.NotSt.TheVariants.{BadOrder, BadFaces, 
 use Rattle.st_report.specs.declared.stop.Refusal.{Refusal}
 use Rattle.st_report.specs.declared.stop.Refusal.TheVariants as refusal
 use Rattle.st_verdict.specs.Stages.{Then, IsOne}
-use Rattle.st_verdict.specs.Verdict.{TellsDigraph, TellsEmbedding, HasNoPoles, HasPoles, HasMap, IsNotPlanar, IsPlanar, IsAccepted, outer_in, vertex_name}
+use Rattle.st_verdict.specs.Verdict.{TellsDigraph, TellsEmbedding, HasNoPoles, HasPoles, HasMap, IsNotPlanar, IsPlanar, IsAccepted, outer_or_first, file_vertex_name}
 use Rattle.st_verdict.proofs.StageLemmas.{ok, err, one_then, told_one, same_bool}
 
 -- ---- the poles
@@ -98,7 +98,7 @@ map_one g (Ok m) (Ok l) h k = ok m l (h.0 ∙ sym k.0)
 map_one g (Ok m) (Err s) h k = absurd (map_apart g m s h k)
 map_one g (Err r) (Ok l) h k = absurd (map_apart g l r k h)
 map_one g (Err r) (Err s) h k =
-    err r s (told_one (λ (v : VertexId). refusal.NotSt (BadOrder (vertex_name g v.0))) (λ v. IsMapFault g.graph g.orders (map_fault.BadOrder v)) (λ u v bad bad'. same_vertex u v (first_bad_same g u v bad bad')) r s h k)
+    err r s (told_one (λ (v : VertexId). refusal.NotSt (BadOrder (file_vertex_name g v.0))) (λ v. IsMapFault g.graph g.orders (map_fault.BadOrder v)) (λ u v bad bad'. same_vertex u v (first_bad_same g u v bad bad')) r s h k)
 
 -- ---- the planar st-graph
 -- Euler's formula
@@ -133,14 +133,14 @@ planar_apart m s t outer why h (bad_outer a b is e p q (inr o)) = q.0 o h.outer_
 
 not_planar_same : (g : InputGraph) (p : Poles) (m : Embedded) (why why' : NotSt) → IsNotPlanar g p m why → IsNotPlanar g p m why' → why ≡ why'
 not_planar_same g p m why why' (fault, is, tells) (fault', is', tells') =
-    let outer = outer_in g m p.source.0 in
+    let outer = outer_or_first g m p.source.0 in
     told_embedding_same m p.source.0 p.sink.0 outer why why' (told m p.source.0 p.sink.0 outer fault why is tells) (told m p.source.0 p.sink.0 outer fault' why' is' tells')
 
 planar_no_refusal : (g : InputGraph) (p : Poles) (m : Embedded) (st : StValue) (r : Refusal) → IsPlanar g p m (Ok st) → IsPlanar g p m (Err r) → ⊥
 planar_no_refusal g p m st r h k =
     let why = k.fault in
     let (fault, is, tells) = k.holds in
-    planar_apart m p.source.0 p.sink.0 (outer_in g m p.source.0) why h.0 (told m p.source.0 p.sink.0 (outer_in g m p.source.0) fault why is tells)
+    planar_apart m p.source.0 p.sink.0 (outer_or_first g m p.source.0) why h.0 (told m p.source.0 p.sink.0 (outer_or_first g m p.source.0) fault why is tells)
 
 planar_one : (g : InputGraph) (p : Poles) (m : Embedded) → IsOne (IsPlanar g p m)
 planar_one g p m (Ok a) (Ok b) h k = ok a b (h.1 ∙ sym k.1)

@@ -2,8 +2,8 @@
 ghost use Rattle.std.specs.Prelude.{◌≡◌, ◌<◌, ℕ, length, map, slice_index, IfOk, Ok};
 ghost use Rattle.st_ids.specs.EdgeNumbers.{numbers};
 ghost use Rattle.st_map.specs.Orders.{HasNoLoop};
-ghost use Rattle.st_test.specs.PolesAnswer.{IsFirstFault};
-ghost use Rattle.st_verdict.specs.Verdict.{HasPoles, HasMap, IsPlanar, IsAccepted, vertex_name, edge_name};
+ghost use Rattle.st_test.specs.PolesAnswer.{IsFirstDigraphFault};
+ghost use Rattle.st_verdict.specs.Verdict.{HasPoles, HasMap, IsPlanar, IsAccepted, file_vertex_name, file_edge_name};
 ghost use Rattle.st_verdict.specs.Stops.{IsStop, StopsAt, Gives};
 
 use st_ids::{EdgeId, NoMemory, VertexId};
@@ -17,7 +17,7 @@ use std::alloc::Global;
 /// The name of a vertex. O(1).
 pub fn name_of_vertex(spec: &GraphSpec, v: VertexId) -> i64
     requires { v.0 < spec.now.graph.vertices }
-    ensures { result ≡ vertex_name spec.now v.0 }
+    ensures { result ≡ file_vertex_name spec.now v.0 }
 {
     *spec.names().vertex.get(v)
 }
@@ -25,7 +25,7 @@ pub fn name_of_vertex(spec: &GraphSpec, v: VertexId) -> i64
 /// The name of an edge. O(1).
 pub fn name_of_edge(spec: &GraphSpec, e: EdgeId) -> i64
     requires { e.0 < length spec.now.graph.ends }
-    ensures { result ≡ edge_name spec.now e.0 }
+    ensures { result ≡ file_edge_name spec.now e.0 }
 {
     *spec.names().edge.get(e)
 }
@@ -33,7 +33,7 @@ pub fn name_of_edge(spec: &GraphSpec, e: EdgeId) -> i64
 // The names of edges.
 fn edge_names(alloc: Global, spec: &GraphSpec, edges: &[EdgeId]) -> Result<NameList, NoMemory>
     requires { (i : ℕ) → i < length edges.now → slice_index (numbers edges.now) i < length spec.now.graph.ends }
-    ensures { IfOk result (λ names. names ≡ map (edge_name spec.now) (numbers edges.now)) }
+    ensures { IfOk result (λ names. names ≡ map (file_edge_name spec.now) (numbers edges.now)) }
 {
     let mut names = NameList::new(alloc);
     for i in 0..edges.len() {
@@ -44,7 +44,7 @@ fn edge_names(alloc: Global, spec: &GraphSpec, edges: &[EdgeId]) -> Result<NameL
 
 // What is told of a fault of the digraph.
 fn digraph_stop(alloc: Global, spec: &GraphSpec, fault: DigraphFault) -> Stop
-    requires { IsFirstFault spec.now.graph fault }
+    requires { IsFirstDigraphFault spec.now.graph fault }
     ensures { IsStop (HasPoles spec.now) result }
 {
     let why = match fault {

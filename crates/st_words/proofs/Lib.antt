@@ -1,2 +1,3 @@
-pub mod WordLemmas
-pub mod OneTask
+mod WordLemmas
+mod OneTask
+pub mod Public

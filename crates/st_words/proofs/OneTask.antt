@@ -10,7 +10,7 @@ use Rattle.st_words.specs.declared.words.Spot.{Spot}
 use Rattle.st_words.specs.declared.words.Spot.TheVariants.{Left, Middle, Right}
 use Rattle.st_words.specs.declared.words.Task.{Task}
 use Rattle.st_words.specs.declared.words.Task.TheVariants.{File, Check, Orient, Gen, Bench}
-use Rattle.st_words.specs.Words.{IsName, AreNames, form_words, AreForm, IsRecipe, IsTask, HasOneTask}
+use Rattle.st_words.specs.Words.{IsName, ArePairNames, form_words, AreForm, IsRecipe, IsTask, HasOneTask}
 
 pair_same : (p q : ℤ × ℤ) → p.0 ≡ q.0 → p.1 ≡ q.1 → p ≡ q
 pair_same p q e f = ap (λ (z : ℤ). let r : ℤ × ℤ = (z, p.1) in r) e ∙ ap (λ (z : ℤ). let r : ℤ × ℤ = (q.0, z) in r) f
@@ -25,7 +25,7 @@ same_list (p ∷ ps) (q ∷ qs) n each =
 same_name : (word : List ℕ) (n m : ℤ) → IsName word n → IsName word m → n ≡ m
 same_name word n m h k = sym h.value ∙ k.value
 
-same_names : (words : List (List ℕ)) (ps qs : List (ℤ × ℤ)) → AreNames words ps → AreNames words qs → ps ≡ qs
+same_names : (words : List (List ℕ)) (ps qs : List (ℤ × ℤ)) → ArePairNames words ps → ArePairNames words qs → ps ≡ qs
 same_names words ps qs h k =
     let n : length ps ≡ length qs = omega (arith, h.size, k.size) in
     same_list ps qs n (λ i l.
@@ -119,7 +119,7 @@ same_recipe a b r r' h k =
     ap (λ (z : ℕ). let x : Recipe = record { vertices = z; seed = r.seed } in x) (sym h.vertices.value ∙ k.vertices.value)
     ∙ ap (λ (z : ℕ). let x : Recipe = record { vertices = r'.vertices; seed = z } in x) (sym h.words.value ∙ k.words.value)
 
-same_two : (words : List (List ℕ)) (p q : ℤ × ℤ) → AreNames words (p ∷ []) → AreNames words (q ∷ []) → p ≡ q
+same_two : (words : List (List ℕ)) (p q : ℤ × ℤ) → ArePairNames words (p ∷ []) → ArePairNames words (q ∷ []) → p ≡ q
 same_two words p q h k = ap (λ (zs : List (ℤ × ℤ)). get_or zs 0 p) (same_names words (p ∷ []) (q ∷ []) h k)
 
 -- ---- a verb, and what is said with it

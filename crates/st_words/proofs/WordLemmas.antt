@@ -9,7 +9,7 @@ use Rattle.st_words.specs.declared.words.Operation.TheVariants.{Join, Meet}
 use Rattle.st_words.specs.declared.words.Recipe.{Recipe}
 use Rattle.st_words.specs.declared.words.Task.{Task}
 use Rattle.st_words.specs.declared.words.Task.TheVariants.{File, Check, Orient, Gen, Bench}
-use Rattle.st_words.specs.Words.{IsName, AreNames, operation_word, IsRecipe, AreRecipe, IsCommand, IsTask, IsFileless}
+use Rattle.st_words.specs.Words.{IsName, ArePairNames, operation_word, IsRecipe, AreRecipe, IsCommand, IsTask, IsFileless}
 
 -- the first i pairs of words write the names of the pairs
 pub record AreFirstNames (words : List (List ℕ)) (i : ℕ) (pairs : List (ℤ × ℤ)) : Type 0 where
@@ -40,7 +40,7 @@ names_push words i pairs u v h a b =
       ];
     }
 
-pub names_whole : (words : List (List ℕ)) (i : ℕ) (pairs : List (ℤ × ℤ)) → AreFirstNames words i pairs → length words ≡ 2 * i → AreNames words pairs
+pub names_whole : (words : List (List ℕ)) (i : ℕ) (pairs : List (ℤ × ℤ)) → AreFirstNames words i pairs → length words ≡ 2 * i → ArePairNames words pairs
 names_whole words i pairs h all = record {
   size = omega (arith, h.size);
   first = λ k l. h.first k (omega (arith, h.size));
@@ -48,10 +48,10 @@ names_whole words i pairs h all = record {
 }
 
 -- a word that writes no name, first or second of its pair
-pub no_first : (words : List (List ℕ)) (i : ℕ) → 2 * i < length words → ((n : ℤ) → IsName (get_or words (2 * i) []) n → ⊥) → (pairs : List (ℤ × ℤ)) → AreNames words pairs → ⊥
+pub no_first : (words : List (List ℕ)) (i : ℕ) → 2 * i < length words → ((n : ℤ) → IsName (get_or words (2 * i) []) n → ⊥) → (pairs : List (ℤ × ℤ)) → ArePairNames words pairs → ⊥
 no_first words i l bad pairs h = bad _ (h.first i (omega (arith, h.size)))
 
-pub no_second : (words : List (List ℕ)) (i : ℕ) → 2 * i + 1 < length words → ((n : ℤ) → IsName (get_or words (2 * i + 1) []) n → ⊥) → (pairs : List (ℤ × ℤ)) → AreNames words pairs → ⊥
+pub no_second : (words : List (List ℕ)) (i : ℕ) → 2 * i + 1 < length words → ((n : ℤ) → IsName (get_or words (2 * i + 1) []) n → ⊥) → (pairs : List (ℤ × ℤ)) → ArePairNames words pairs → ⊥
 no_second words i l bad pairs h = bad _ (h.second i (omega (arith, h.size)))
 
 -- an item of a list, and its image
@@ -79,7 +79,7 @@ by_letter name rest (Lattice Meet from to) h = of_word name (codes "meet") h.0
 
 -- the word of a bound, with a rest that isn't two names, is no command
 module _ (name : List ℕ) (rest : List (List ℕ)) where
-  pub only_bound : (o : Operation) → name ≡ operation_word o → ((u v : ℤ) → AreNames rest ((u, v) ∷ []) → ⊥) → (c : Command) → IsCommand (name ∷ rest) c → ⊥
+  pub only_bound : (o : Operation) → name ≡ operation_word o → ((u v : ℤ) → ArePairNames rest ((u, v) ∷ []) → ⊥) → (c : Command) → IsCommand (name ∷ rest) c → ⊥
   unfolding command_letter
   only_bound o is none (Lattice o' u v) h = none u v h.1
   only_bound Join is none Test h = omega (arith, of_word name (codes "join") is, by_letter name rest Test h)
@@ -104,7 +104,7 @@ pub its_word : (words : List (List ℕ)) (a b : List ℕ) → a ≡ get_or words
 its_word words a b is one = is ∙ ap (λ (z : List (List ℕ)). get_or z 0 []) one
 
 -- two words that write two names
-pub two_written : (words : List (List ℕ)) (a b : List ℕ) (u v : ℤ) → length words ≡ 2 → a ≡ get_or words 0 [] → b ≡ get_or words 1 [] → IsName a u → IsName b v → AreNames words ((u, v) ∷ [])
+pub two_written : (words : List (List ℕ)) (a b : List ℕ) (u v : ℤ) → length words ≡ 2 → a ≡ get_or words 0 [] → b ≡ get_or words 1 [] → IsName a u → IsName b v → ArePairNames words ((u, v) ∷ [])
 two_written words a b u v n at_0 at_1 h k =
     let first : AreFirstNames words 1 ([] ++ (u, v) ∷ []) = names_push words 0 [] u v (no_names words) (subst (λ w. IsName w u) at_0 h) (subst (λ w. IsName w v) at_1 k) in
     names_whole words 1 ((u, v) ∷ []) first (omega (arith, n))

@@ -1,12 +1,12 @@
 -- What words ask for.
---   IsName word n        the word writes the vertex name n
---   AreNames words ps    the words write the names of the pairs, one after the other
---   AreForm words f      the words name the form of drawing
---   IsCommand words c    the words are a form of the command on a file
---   IsNumber word n      the word writes the number n, in digits alone
---   IsRecipe a b r       two words write which graph is generated
---   AskOrient words s t  the words ask for an orientation with the poles of these names
---   IsTask words t       the words ask for the task: a command on a file, a check, an orientation, or something about a generated graph
+--   IsName word n          the word writes the vertex name n
+--   ArePairNames words ps  the words write the names of the pairs, one after the other
+--   AreForm words f        the words name the form of drawing
+--   IsCommand words c      the words are a form of the command on a file
+--   IsNumber word n        the word writes the number n, in digits alone
+--   IsRecipe a b r         two words write which graph is generated
+--   AskOrient words s t    the words ask for an orientation with the poles of these names
+--   IsTask words t         the words ask for the task: a command on a file, a check, an orientation, or something about a generated graph
 use Rattle.st_ids.specs.declared.limits.TheConstants.{MOST_PAIRS, MOST_VERTICES}
 use Rattle.std.specs.Prelude.{◌≡◌, ℕ, ◌+◌, ◌*◌, ◌^◌, ◌<◌, ◌≤◌, ℤ, pos, FitsSigned, List, [], ◌∷◌, length, drop, slice_index_or, codes}
 use Rattle.std.specs.Int.{w64}
@@ -30,7 +30,7 @@ pub record IsName (word : List ℕ) (n : ℤ) : Type 0 where
   pub fits : FitsSigned w64 n
 
 -- the words write the names of the pairs, one after the other
-pub record AreNames (words : List (List ℕ)) (pairs : List (ℤ × ℤ)) : Type 0 where
+pub record ArePairNames (words : List (List ℕ)) (pairs : List (ℤ × ℤ)) : Type 0 where
   pub size : length words ≡ 2 * length pairs
   pub first : (i : ℕ) → i < length pairs → IsName (slice_index_or words (2 * i) []) (slice_index_or pairs i (pos 0, pos 0)).0
   pub second : (i : ℕ) → i < length pairs → IsName (slice_index_or words (2 * i + 1) []) (slice_index_or pairs i (pos 0, pos 0)).1
@@ -73,8 +73,8 @@ command_word (Lattice operation from to) = operation_word operation
 abbrev pub AreArguments : List (List ℕ) → Command → Type 0
 AreArguments words Test = words ≡ []
 AreArguments words (Draw form) = AreForm words form
-AreArguments words (Query pairs) = (1 ≤ length pairs) × (length pairs ≤ most_pairs) × AreNames words pairs
-AreArguments words (Lattice operation from to) = AreNames words ((from, to) ∷ [])
+AreArguments words (Query pairs) = (1 ≤ length pairs) × (length pairs ≤ most_pairs) × ArePairNames words pairs
+AreArguments words (Lattice operation from to) = ArePairNames words ((from, to) ∷ [])
 
 -- the words are a form of the command on a file
 abbrev pub IsCommand : List (List ℕ) → Command → Type 0
@@ -105,7 +105,7 @@ AreRecipe words r = IsRecipe (slice_index_or words 1 []) (slice_index_or words 2
 -- the words ask for an orientation with a source and a sink of these names
 abbrev pub AskOrient : List (List ℕ) → ℤ → ℤ → Type 0
 AskOrient [] from to = ⊥
-AskOrient (name ∷ words) from to = (name ≡ codes "orient") × AreNames words ((from, to) ∷ [])
+AskOrient (name ∷ words) from to = (name ≡ codes "orient") × ArePairNames words ((from, to) ∷ [])
 
 -- the words ask for the task; the form of a drawing stands last
 abbrev pub IsTask : List (List ℕ) → Task → Type 0

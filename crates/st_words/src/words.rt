@@ -3,7 +3,7 @@ ghost use Rattle.std.specs.Prelude.{◌≡◌, ◌≢◌, ℕ, ℤ, ◌+◌, ◌
 ghost use Rattle.std.specs.String.{string_bytes};
 ghost use Rattle.st_words.specs.declared.words.Command.TheVariants.{Query};
 ghost use Rattle.st_words.specs.declared.words.Task.TheVariants.{Check, Orient};
-ghost use Rattle.st_words.specs.Words.{IsName, IsNumber, AreNames, AreForm, AreArguments, IsRecipe, IsCommand, IsTask, IsFileless, AskOrient, operation_word, spot_word, form_words};
+ghost use Rattle.st_words.specs.Words.{IsName, IsNumber, ArePairNames, AreForm, AreArguments, IsRecipe, IsCommand, IsTask, IsFileless, AskOrient, operation_word, spot_word, form_words};
 
 use st_ids::NoMemory;
 use st_ids::limits::{MOST_PAIRS, MOST_VERTICES};
@@ -131,7 +131,7 @@ fn name_of(word: &String) -> Option<i64>
 
 // The pairs that the words write.
 fn pairs_of(alloc: Global, words: &[String]) -> Result<Option<Pairs>, NoMemory>
-    ensures { IfOk result (λ o. MatchOption o ((pairs : List (ℤ × ℤ)) → ¬ AreNames (map string_bytes words.now) pairs) (λ pairs. AreNames (map string_bytes words.now) pairs)) }
+    ensures { IfOk result (λ o. MatchOption o ((pairs : List (ℤ × ℤ)) → ¬ ArePairNames (map string_bytes words.now) pairs) (λ pairs. ArePairNames (map string_bytes words.now) pairs)) }
 {
     let mut pairs = Pairs::new(alloc);
     if words.len() % 2 != 0 {
@@ -233,7 +233,7 @@ fn operation_of(word: &String) -> Option<Operation>
 
 // The two vertex names that the words write.
 fn two_names(words: &[String]) -> Option<(i64, i64)>
-    ensures { MatchOption result ((from to : ℤ) → ¬ AreNames (map string_bytes words.now) ((from, to) ∷ [])) (λ names. AreNames (map string_bytes words.now) (names ∷ [])) }
+    ensures { MatchOption result ((from to : ℤ) → ¬ ArePairNames (map string_bytes words.now) ((from, to) ∷ [])) (λ names. ArePairNames (map string_bytes words.now) (names ∷ [])) }
 {
     let [from, to] = words else {
         return None;

@@ -2,10 +2,9 @@
 use Rattle.std.proofs.Common.{◌≡◌, ◌≢◌, ◌<◌, ◌≤◌, ◌∙◌, ℕ, List, length, refl, sym, subst, arith}
 use Rattle.std.specs.Prelude.{Result, Ok, Err, IsErrOf}
 use Rattle.std.specs.Io.KnownBytes.{Consumes}
-use Rattle.eps_check.proofs.VerdictLemmas.{one_verdict}
+use Rattle.eps_check.proofs.Public.{one_verdict}
 use Rattle.eps_core.specs.Meaning.{IsFirstBad}
-use Rattle.eps_core.proofs.Pictures.{one_text}
-use Rattle.eps_core.proofs.FirstBad.{one_bad_line}
+use Rattle.eps_core.proofs.Public.{one_text, one_bad_line}
 use Rattle.st_port.specs.Reading.{Reads}
 use Rattle.st_port.specs.Streams.{SourceState}
 use Rattle.st_port.specs.declared.port.ReadEnd.TheVariants as read

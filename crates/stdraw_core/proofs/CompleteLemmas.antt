@@ -13,7 +13,7 @@ use Rattle.st_words.specs.declared.words.Command.TheVariants.{Query, Test, Draw,
 use Rattle.st_words.specs.declared.words.Task.{Task}
 use Rattle.st_words.specs.declared.words.Task.TheVariants.{File, Check, Orient, Gen, Bench}
 use Rattle.st_words.specs.Words.{IsTask}
-use Rattle.stdraw_core.specs.Answer.{Asks, Answers, AnswersFile, AnswersTask}
+use Rattle.stdraw_core.specs.Answer.{Asks, AnswersCommand, AnswersFile, AnswersTask}
 use Rattle.stdraw_core.specs.Complete.{Fits, IsMet, Complete}
 use Rattle.stdraw_core.specs.Headline.{IsPlanarFile, IsCleanFile}
 use Rattle.stdraw_core.proofs.CheckLemmas.{clean_given}
@@ -29,7 +29,7 @@ use Rattle.st_verdict.proofs.Public.{next_says, found, accepted_one, consistent}
 use Rattle.stdraw_core.proofs.PathLemmas.{valid_not_refused}
 
 -- what fits a command isn't refused by it
-fit_given : (c : Command) (g : InputGraph) (st : StValue) → IsConsistent g → IsFound g st → Fits c g st → (r : Refusal) → Answers c g st (Err r) → ⊥
+fit_given : (c : Command) (g : InputGraph) (st : StValue) → IsConsistent g → IsFound g st → Fits c g st → (r : Refusal) → AnswersCommand c g st (Err r) → ⊥
 fit_given (Query ps) g st tables is fits r h = known_unknown g (names_of ps) h.fault fits h.holds
 fit_given Test g st tables is fits r h = h
 fit_given (Draw form) g st tables is fits r h = valid_not_refused g st tables is form r fits h

@@ -6,22 +6,18 @@ use Rattle.st_shape.specs.declared.point.Point.{Point}
 use Rattle.st_shape.specs.Rules.{Drawing}
 use Rattle.st_sides.specs.Sides.{SidesValue, IsSides}
 use Rattle.st_sides.specs.SidesOf.{IsSidesOf}
-use Rattle.st_sides.proofs.MeaningLemmas.{meaning_law}
-use Rattle.st_sides.proofs.OneValueLemmas.{one_value_law}
+use Rattle.st_sides.proofs.Public.{meaning_law, one_value_law}
 use Rattle.st_test.specs.Planar.{IsPlanarSt, StValue}
 use Rattle.st_picture.specs.Naming.{AreNames}
 use Rattle.st_picture.specs.Drawn.{IsDrawn}
 use Rattle.st_reduce.specs.Reduced.{ReducedIs, dummy_at}
 use Rattle.st_reduce.specs.ReducedSides.{last_of}
-use Rattle.st_reduce.proofs.OneLemmas.{one_reduced_law}
-use Rattle.st_reduce.proofs.ReducedLemmas.{reduced_law}
-use Rattle.st_reduce.proofs.ReducedSidesLemmas.{reduced_sides_law}
+use Rattle.st_reduce.proofs.Public.{one_reduced_law, reduced_law, reduced_sides_law}
 use Rattle.st_order.specs.Numbers.{HasNumbers}
 use Rattle.draw_dom.specs.Laws.{HasPictures}
 use Rattle.draw_dom.specs.Pictures.{IsDominancePicture, ShowsReaching}
 use Rattle.draw_dom.specs.Shown.{IsDominanceOf}
-use Rattle.draw_dom.proofs.LaidLemmas.{none_there}
-use Rattle.draw_dom.proofs.PictureLemmas.{pictures_law, same_points}
+use Rattle.draw_dom.proofs.Public.{none_there, pictures_law, same_points}
 use Rattle.stdraw_core.specs.Drawing.{IsReducedPicture}
 
 module _ (st : StValue) (x : SidesValue) (planar : IsPlanarSt st.map.graph st.source st.sink st.outer) (of : IsSidesOf st.map.graph st.source st.sink st.outer x) (is : IsSides x) where

@@ -11,19 +11,19 @@ use Rattle.st_test.specs.Planar.{StValue}
 use Rattle.st_sides.specs.Sides.{SidesValue, edge_count}
 use Rattle.st_sides.specs.SidesOf.{IsSidesOf}
 use Rattle.st_picture.specs.Naming.{AreNames, IsLabelText, vertex_name, label_text}
-use Rattle.st_input.specs.InputGraph.{InputGraph, IsConsistent, IsLabel, IsShown}
+use Rattle.st_input.specs.InputGraph.{InputGraph, IsConsistent, IsLabel, IsShownByte}
 use Rattle.st_verdict.specs.Verdict.{IsFound}
 use Rattle.st_ids.specs.declared.ids.EdgeId.{EdgeId}
 use Rattle.st_ids.specs.Walks.{Arcs, Walk, stay, step}
 use Rattle.st_shape.specs.Rules.{Drawing, IsPrintable}
-use Rattle.st_number.specs.Weighing.{WeightsValue, IsLawful}
+use Rattle.st_number.specs.Weighing.{WeightsValue, AreLawfulWeights}
 use Rattle.st_number.specs.Greatest.{weigh, IsGreatest}
 use Rattle.st_number.specs.Numbers.{AreNumbers}
 use Rattle.draw_poly.specs.Placing.{AreEnds}
 use Rattle.draw_poly.specs.Polyline.{IsPolylineBy}
 use Rattle.st_sides.specs.Sides.{IsSides, left_of, right_of}
-use Rattle.st_sides.proofs.ReaderLemmas.{right_within}
-use Rattle.st_number.proofs.BoundLemmas.{bounds_law}
+use Rattle.st_sides.proofs.Public.{right_within}
+use Rattle.st_number.proofs.Public.{bounds_law}
 use Rattle.st_words.specs.declared.words.Spot.{Spot}
 use Rattle.draw_vis.specs.Visibility.{IsVisibility, IsVisibilityBy}
 use Rattle.draw_vis.specs.Tessellation.{IsTessellation, IsTessellationBy}
@@ -35,7 +35,7 @@ all_by_place P [] each = tt
 all_by_place P (x ∷ xs) each = (each 0 (omega arith), all_by_place P xs (λ i l. each (suc i) (omega arith)))
 
 label_prints : (text : List ℕ) → IsLabel text → IsLabelText text
-label_prints text h = (h.0, h.1, all_by_place IsPrintable text (λ i l. All-get_or IsShown text i 0 l h.2))
+label_prints text h = (h.0, h.1, all_by_place IsPrintable text (λ i l. All-get_or IsShownByte text i 0 l h.2))
 
 -- the names of a file are names for its sides
 pub names_meet : (g : InputGraph) (st : StValue) (x : SidesValue) → IsConsistent g → IsFound g st → IsSidesOf st.map.graph st.source st.sink st.outer x → AreNames x (file_names g)
@@ -90,7 +90,7 @@ tessellation_by_ones post x N d ones h = record {
 }
 
 -- a lawful closure with 1 as its greatest weight answers 1
-pub all_ones : {F : Type 0} (pre : F → EdgeId → Type 0) (post : F → EdgeId → ℕ → Type 0) (w : WeightsValue F) → IsLawful pre post w → w.most ≡ 1 → (m : ℕ) → w.edges ≡ m
+pub all_ones : {F : Type 0} (pre : F → EdgeId → Type 0) (post : F → EdgeId → ℕ → Type 0) (w : WeightsValue F) → AreLawfulWeights pre post w → w.most ≡ 1 → (m : ℕ) → w.edges ≡ m
     → (e : EdgeId) (n : ℕ) → e.0 < m → post w.closure e n → n ≡ 1
 all_ones pre post w lawful one m count e n l h =
     let there : e.0 < w.edges = omega arith in

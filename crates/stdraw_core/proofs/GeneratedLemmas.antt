@@ -27,7 +27,7 @@ use Rattle.st_input.specs.Plain.{default_orders, plain_graph}
 use Rattle.stdraw_core.specs.Paths.{IsBadPath, unknown_edge, first_fault}
 use Rattle.st_verdict.specs.Stages.{refuses, goes_on}
 use Rattle.st_verdict.specs.Stops.{IsStop, StopsAt, Gives}
-use Rattle.st_verdict.specs.Verdict.{TellsDigraph, TellsEmbedding, HasPoles, HasMap, outer_in, IsPlanar, IsAccepted}
+use Rattle.st_verdict.specs.Verdict.{TellsDigraph, TellsEmbedding, HasPoles, HasMap, outer_or_first, IsPlanar, IsAccepted}
 use Rattle.stdraw_core.specs.Bench.{IsLineOn, AnswersBench}
 use Rattle.stdraw_core.specs.Drawing.{AnswersDraw}
 
@@ -41,7 +41,7 @@ module _ (g : InputGraph) (s t : ℕ) (passes : PassesTests g.graph g.orders s t
   no_map r h = passes.no_map_fault (map_fault.BadOrder h.fault) (λ q. cc) h.holds
 
   -- the outer end is the first at the source, since none is named
-  first_end : (m : Embedded) (a : ℕ) → outer_in g m a ≡ slice_index (order m a) 0
+  first_end : (m : Embedded) (a : ℕ) → outer_or_first g m a ≡ slice_index (order m a) 0
   first_end m a = ap (λ z. unwrap_or z (slice_index (order m a) 0)) free
 
   no_plane : (p : Poles) (m : Embedded) (r : Refusal) → p.source.0 ≡ s → p.sink.0 ≡ t → m ≡ embed g.graph g.orders → IsPlanar g p m (Err r) → ⊥
@@ -68,13 +68,13 @@ module _ (g : InputGraph) (s t : ℕ) (passes : PassesTests g.graph g.orders s t
     map = record { graph = embed g.graph g.orders; spare = 0 };
     source = s;
     sink = t;
-    outer = outer_in g (embed g.graph g.orders) s;
+    outer = outer_or_first g (embed g.graph g.orders) s;
   }
 
   pub accepted_is : IsAccepted g (Ok accepted_value)
   unfolding accepted_value
   accepted_is =
-      let planar : IsPlanarSt (embed g.graph g.orders) s t (outer_in g (embed g.graph g.orders) s) = subst (λ z. IsPlanarSt (embed g.graph g.orders) s t z) (sym (first_end (embed g.graph g.orders) s)) passes.planar in
+      let planar : IsPlanarSt (embed g.graph g.orders) s t (outer_or_first g (embed g.graph g.orders) s) = subst (λ z. IsPlanarSt (embed g.graph g.orders) s t z) (sym (first_end (embed g.graph g.orders) s)) passes.planar in
       goes_on (record { source = record { 0 = s }; sink = record { 0 = t } }) passes.poles (goes_on (embed g.graph g.orders) (refl, passes.lists) (planar, refl))
 
 -- ---- a generated graph passes the tests

@@ -1,7 +1,7 @@
 -- One recipe gives one graph, and one file.
 use Rattle.std.proofs.Common.{◌≡◌, ℕ, List, sym, ap, ◌∙◌}
 use Rattle.gml_core.specs.Printing.{printed}
-use Rattle.st_gen.proofs.MadeLemmas.{one_graph}
+use Rattle.st_gen.proofs.Public.{one_graph}
 use Rattle.st_ids.specs.Graph.{Graph}
 use Rattle.st_input.specs.InputGraph.{InputGraph}
 use Rattle.st_words.specs.declared.words.Recipe.{Recipe}

@@ -7,15 +7,13 @@ use Rattle.st_port.specs.Faults.{Rose}
 use Rattle.st_port.specs.Streams.{SourceState, SinkState, Gains}
 use Rattle.st_shape.specs.Rules.{Drawing}
 use Rattle.st_sides.specs.Sides.{SidesValue, IsSides}
-use Rattle.st_sides.proofs.MeaningLemmas.{meaning_law}
-use Rattle.st_sides.proofs.NormalLemmas.{order_law}
+use Rattle.st_sides.proofs.Public.{meaning_law, order_law}
 use Rattle.st_ids.specs.declared.names.Names.{Names}
 use Rattle.st_picture.specs.Naming.{AreNames}
 use Rattle.st_test.specs.Planar.{StValue}
 use Rattle.st_test.specs.PolesAnswer.{OnePolesAnswer}
-use Rattle.draw_vis.proofs.NumberLemmas.{visibility_drawn}
-use Rattle.draw_vis.proofs.TileLemmas.{tessellation_drawn}
-use Rattle.draw_poly.proofs.NumberLemmas.{polyline_drawn}
+use Rattle.draw_vis.proofs.Public.{visibility_drawn, tessellation_drawn}
+use Rattle.draw_poly.proofs.Public.{polyline_drawn}
 use Rattle.stdraw_core.proofs.PolylineLemmas.{long}
 use Rattle.stdraw_core.proofs.DominanceLemmas.{right_dominance}
 use Rattle.stdraw_core.proofs.PathLemmas.{drawn_valid, right_aligned, valid_not_refused}
@@ -27,7 +25,7 @@ use Rattle.st_words.specs.declared.words.DrawForm.TheVariants.{Visibility, Tesse
 use Rattle.st_report.specs.declared.stop.Refusal.{Refusal}
 use Rattle.st_report.specs.declared.stop.Status.{Status}
 use Rattle.st_report.specs.declared.stop.Status.TheVariants as status
-use Rattle.stdraw_core.specs.Answer.{Asks, Answers, AnswersGraph, AnswersFile, AnswersTask, IsAnswer}
+use Rattle.stdraw_core.specs.Answer.{Asks, AnswersCommand, AnswersGraph, AnswersFile, AnswersTask, IsAnswer}
 use Rattle.stdraw_core.specs.Drawing.{one_each, file_names, IsPictureOf, IsRightPicture, Draws, ShowsFile}
 use Rattle.stdraw_core.specs.Headline.{IsPlanarFile, HeadlineFor, Headline, QueryHeadlineFor, QueryHeadline, LatticeHeadlineFor, LatticeHeadline, CheckHeadlineFor, CheckHeadline}
 use Rattle.stdraw_core.specs.Checked.{AnswersCheck}
@@ -62,24 +60,24 @@ planar_graph : (bytes : List ℕ) (g : InputGraph) (st : StValue) → IsPlanarFi
 planar_graph bytes g st file = goes_on tt file.few (goes_on file.tree file.text file.graph)
 
 -- what is answered to a planar file is what the command answers about its graph
-pub planar_says : (command : Command) (bytes : List ℕ) (g : InputGraph) (st : StValue) → IsPlanarFile bytes g st → IsOne (IsAccepted g) → (answer : Result (List ℕ) Refusal) → AnswersFile command bytes answer → Answers command g st answer
+pub planar_says : (command : Command) (bytes : List ℕ) (g : InputGraph) (st : StValue) → IsPlanarFile bytes g st → IsOne (IsAccepted g) → (answer : Result (List ℕ) Refusal) → AnswersFile command bytes answer → AnswersCommand command g st answer
 planar_says command bytes g st file one answer h =
     let a = next_says (IsGraphWithin bytes) (AnswersGraph command) (graph_within_one bytes) g (planar_graph bytes g st file) answer h in
-    next_says (IsAccepted g) (Answers command g) one st file.planar answer a
+    next_says (IsAccepted g) (AnswersCommand command g) one st file.planar answer a
 
 -- an output is that of a planar file
 pub record IsOutputOf (command : Command) (bytes out : List ℕ) : Type 0 where
   pub g : InputGraph
   pub st : StValue
   pub file : IsPlanarFile bytes g st
-  pub answers : Answers command g st (Ok out)
+  pub answers : AnswersCommand command g st (Ok out)
 
 pub output_of : (command : Command) (bytes out : List ℕ) → AnswersFile command bytes (Ok out) → IsOutputOf command bytes out
 output_of command bytes out h =
     let a = value_found (IsGraphWithin bytes) (AnswersGraph command) out h in
     let b = value_found (IsFew bytes) (λ _. IsGraphIn bytes) a.value a.is in
     let c = value_found (IsTree bytes) IsGraph a.value b.goes in
-    let d = value_found (IsAccepted a.value) (Answers command a.value) out a.goes in
+    let d = value_found (IsAccepted a.value) (AnswersCommand command a.value) out a.goes in
     record {
       g = a.value;
       st = d.value;

@@ -5,20 +5,18 @@ use Rattle.st_ids.specs.declared.ids.EdgeId.{EdgeId}
 use Rattle.st_ids.specs.EdgeNumbers.{numbers}
 use Rattle.st_ids.specs.Walks.{Arcs, Walk, stay, step}
 use Rattle.st_input.specs.InputGraph.{InputGraph, IsConsistent}
-use Rattle.st_lattice.proofs.BoundLemmas.{lattice_law}
-use Rattle.st_lattice.proofs.LeftmostLemmas.{leftmost_law}
+use Rattle.st_lattice.proofs.Public.{lattice_law, leftmost_law}
 use Rattle.st_report.specs.Lines.{numbered, spaced}
-use Rattle.st_report.proofs.LineLemmas.{spaced-push}
+use Rattle.st_report.proofs.Public.{spaced-push}
 use Rattle.st_sides.specs.Sides.{SidesValue, IsSides}
-use Rattle.st_sides.proofs.MeaningLemmas.{meaning_law}
-use Rattle.st_sides.proofs.OneValueLemmas.{one_value_law}
+use Rattle.st_sides.proofs.Public.{meaning_law, one_value_law}
 use Rattle.st_test.specs.Planar.{IsPlanarSt, StValue}
-use Rattle.st_verdict.specs.Verdict.{vertex_name, edge_name}
+use Rattle.st_verdict.specs.Verdict.{file_vertex_name, file_edge_name}
 use Rattle.st_words.specs.declared.words.Operation.{Operation}
 use Rattle.st_words.specs.declared.words.Operation.TheVariants.{Join, Meet}
 use Rattle.stdraw_core.specs.Lattice.{IsBound, ShowsBound, bound_line, walk_line, IsWalkLine, TellsBound, AreBoundLines, AnswersLattice}
 use Rattle.stdraw_core.specs.Paths.{AreSidesIn}
-use Rattle.stdraw_core.specs.Query.{AreKnown, IsKnown, IsNamed, IsUnknown}
+use Rattle.stdraw_core.specs.Query.{AreKnown, IsKnownName, IsNamed, IsUnknown}
 use Rattle.st_report.specs.declared.stop.Refusal.TheVariants.{UnknownVertex}
 use Rattle.st_report.specs.declared.stop.Stop.{Stop}
 use Rattle.st_report.specs.declared.stop.Stop.TheVariants.{Refused}
@@ -48,13 +46,13 @@ pub three_names : (n m k : ℤ) (end : List ℕ) → spaced (n ∷ m ∷ []) ++ 
 three_names n m k end = names_moved (numbered (codes " ") n []) (numbered (codes " ") m []) (numbered (codes " ") k []) end
 
 -- the names of the edges so far, and one more
-pub edges_push : (g : InputGraph) (edges : List EdgeId) (i : ℕ) (d : EdgeId) (first old new : List ℕ) (name : ℤ) → i < length edges → name ≡ edge_name g (get_or edges i d).0
-    → old ≡ first ++ spaced (take i (map (edge_name g) (numbers edges))) → new ≡ old ++ numbered (codes " ") name [] → new ≡ first ++ spaced (take (i + 1) (map (edge_name g) (numbers edges)))
+pub edges_push : (g : InputGraph) (edges : List EdgeId) (i : ℕ) (d : EdgeId) (first old new : List ℕ) (name : ℤ) → i < length edges → name ≡ file_edge_name g (get_or edges i d).0
+    → old ≡ first ++ spaced (take i (map (file_edge_name g) (numbers edges))) → new ≡ old ++ numbered (codes " ") name [] → new ≡ first ++ spaced (take (i + 1) (map (file_edge_name g) (numbers edges)))
 edges_push g edges i d first old new name l is old_is new_is =
-    let ns = map (edge_name g) (numbers edges) in
+    let ns = map (file_edge_name g) (numbers edges) in
     let wide : i < length (numbers edges) = omega (arith, length-map edges edge_number) in
-    let there : i < length ns = omega (arith, length-map (numbers edges) (edge_name g)) in
-    let at : get_or ns i (pos 0) ≡ edge_name g (get_or edges i d).0 = get_or-map (edge_name g) (numbers edges) i 0 (pos 0) wide ∙ ap (edge_name g) (get_or-map edge_number edges i d 0 l) in
+    let there : i < length ns = omega (arith, length-map (numbers edges) (file_edge_name g)) in
+    let at : get_or ns i (pos 0) ≡ file_edge_name g (get_or edges i d).0 = get_or-map (file_edge_name g) (numbers edges) i 0 (pos 0) wide ∙ ap (file_edge_name g) (get_or-map edge_number edges i d 0 l) in
     new_is ∙ ap (λ z. z ++ numbered (codes " ") name []) old_is ∙ append_assoc first (spaced (take i ns)) (numbered (codes " ") name [])
     ∙ ap (λ z. first ++ z) (ap (λ z. spaced (take i ns) ++ numbered (codes " ") z []) (is ∙ sym at) ∙ sym (spaced-push ns i (pos 0) there))
 
@@ -75,7 +73,7 @@ pub first_unknown : (op : Operation) (from to : ℤ) (g : InputGraph) (st : StVa
 first_unknown op from to g st stop name e is bad =
     subst (IsStop (AnswersLattice op from to g st)) (sym e) (record { fault = name; is = refl; holds = inl (subst (IsUnknown g) is bad, is) })
 
-pub second_unknown : (op : Operation) (from to : ℤ) (g : InputGraph) (st : StValue) (stop : Stop) (name : ℤ) → stop ≡ Refused (UnknownVertex name) → name ≡ to → IsKnown g from → IsUnknown g name → IsStop (AnswersLattice op from to g st) stop
+pub second_unknown : (op : Operation) (from to : ℤ) (g : InputGraph) (st : StValue) (stop : Stop) (name : ℤ) → stop ≡ Refused (UnknownVertex name) → name ≡ to → IsKnownName g from → IsUnknown g name → IsStop (AnswersLattice op from to g st) stop
 second_unknown op from to g st stop name e is good bad =
     subst (IsStop (AnswersLattice op from to g st)) (sym e) (record { fault = name; is = refl; holds = inr (good, inl (subst (IsUnknown g) is bad, is)) })
 
@@ -87,7 +85,7 @@ answered op from to g st u v out h k t = record { u = u; v = v; from_named = h; 
 module _ (g : InputGraph) (x : SidesValue) (is : IsSides x) where
   same_walk : (u w : ℕ) (a b : List ℕ) → IsWalkLine g x u w a → IsWalkLine g x u w b → a ≡ b
   same_walk u w a b h k =
-      h.text ∙ ap (λ (z : List ℕ). walk_line (vertex_name g u) (vertex_name g w) (map (edge_name g) z)) ((leftmost_law x is).one u w h.walk k.walk h.leftmost k.leftmost) ∙ sym k.text
+      h.text ∙ ap (λ (z : List ℕ). walk_line (file_vertex_name g u) (file_vertex_name g w) (map (file_edge_name g) z)) ((leftmost_law x is).one u w h.walk k.walk h.leftmost k.leftmost) ∙ sym k.text
 
   same_shown : (op : Operation) (u w : ℕ) (a b : List ℕ) → ShowsBound op g x u w a → ShowsBound op g x u w b → a ≡ b
   same_shown Join u w a b h k = same_walk u w a b h k
@@ -103,9 +101,9 @@ module _ (g : InputGraph) (x : SidesValue) (is : IsSides x) where
       let first : h.first ≡ k.first = same_shown op u h.bound h.first k.first h.shows_first (subst (λ z. ShowsBound op g x u z k.first) one k.shows_first) in
       let second : h.second ≡ k.second = same_shown op v h.bound h.second k.second h.shows_second (subst (λ z. ShowsBound op g x v z k.second) one k.shows_second) in
       h.text
-      ∙ ap (λ z. bound_line op (vertex_name g u) (vertex_name g v) (vertex_name g z) ++ (h.first ++ h.second)) (sym one)
-      ∙ ap (λ z. bound_line op (vertex_name g u) (vertex_name g v) (vertex_name g k.bound) ++ (z ++ h.second)) first
-      ∙ ap (λ z. bound_line op (vertex_name g u) (vertex_name g v) (vertex_name g k.bound) ++ (k.first ++ z)) second
+      ∙ ap (λ z. bound_line op (file_vertex_name g u) (file_vertex_name g v) (file_vertex_name g z) ++ (h.first ++ h.second)) (sym one)
+      ∙ ap (λ z. bound_line op (file_vertex_name g u) (file_vertex_name g v) (file_vertex_name g k.bound) ++ (z ++ h.second)) first
+      ∙ ap (λ z. bound_line op (file_vertex_name g u) (file_vertex_name g v) (file_vertex_name g k.bound) ++ (k.first ++ z)) second
       ∙ sym k.text
 
 pub same_bound_lines : (op : Operation) (from to : ℤ) (g : InputGraph) (st : StValue) → IsConsistent g → IsPlanarSt st.map.graph st.source st.sink st.outer

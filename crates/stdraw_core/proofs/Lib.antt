@@ -1,19 +1,19 @@
-pub mod DrawingLemmas
-pub mod PolylineLemmas
-pub mod DominanceLemmas
-pub mod PathLemmas
-pub mod BenchLemmas
-pub mod GeneratedLemmas
-pub mod GeneratedOne
-pub mod PlaneLemmas
-pub mod OrientOne
-pub mod OneAnswer
-pub mod RunLemmas
-pub mod HeadlineLemmas
-pub mod OrientHeadline
-pub mod CompleteLemmas
-pub mod ExactLemmas
-pub mod QueryLemmas
-pub mod LatticeLemmas
-pub mod CheckLemmas
-pub mod AcceptedLemmas
+mod DrawingLemmas
+mod PolylineLemmas
+mod DominanceLemmas
+mod PathLemmas
+mod BenchLemmas
+mod GeneratedLemmas
+mod GeneratedOne
+mod PlaneLemmas
+mod OrientOne
+mod OneAnswer
+mod RunLemmas
+mod HeadlineLemmas
+mod OrientHeadline
+mod CompleteLemmas
+mod ExactLemmas
+mod QueryLemmas
+mod LatticeLemmas
+mod CheckLemmas
+mod AcceptedLemmas

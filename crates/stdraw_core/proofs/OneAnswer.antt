@@ -16,11 +16,11 @@ use Rattle.st_verdict.specs.Stages.{IsOne}
 use Rattle.st_words.specs.declared.words.Recipe.{Recipe}
 use Rattle.st_words.specs.declared.words.Task.{Task}
 use Rattle.st_words.specs.declared.words.Task.TheVariants.{File, Check, Orient, Gen, Bench}
-use Rattle.st_words.proofs.OneTask.{one_task_law}
-use Rattle.stdraw_core.specs.Query.{names_of, IsFirstUnknown, IsLine, line_of_pair, AreLines, no_line, one_line, AreAnswers}
+use Rattle.st_words.proofs.Public.{one_task_law}
+use Rattle.stdraw_core.specs.Query.{names_of, IsFirstUnknown, IsLine, line_of_pair, AreQueryLines, no_line, one_line, AreAnswers}
 use Rattle.st_verdict.specs.Verdict.{IsAccepted, IsFound}
 use Rattle.stdraw_core.specs.Paths.{AreSidesIn}
-use Rattle.stdraw_core.specs.Answer.{Asks, Answers, AnswersGraph, AnswersFile, AnswersTask, AreAlike, HaveOneAnswer}
+use Rattle.stdraw_core.specs.Answer.{Asks, AnswersCommand, AnswersGraph, AnswersFile, AnswersTask, AreAlike, HaveOneAnswer}
 use Rattle.stdraw_core.specs.Bench.{AnswersBench}
 use Rattle.stdraw_core.specs.Generated.{AnswersGen}
 use Rattle.st_report.specs.declared.stop.Refusal.{Refusal}
@@ -33,11 +33,10 @@ use Rattle.st_shape.specs.declared.point.Point.{Point}
 use Rattle.st_shape.specs.Rules.{Drawing}
 use Rattle.st_map.specs.Embedded.{edges, faces}
 use Rattle.st_sides.specs.Sides.{SidesValue, IsSides}
-use Rattle.st_sides.proofs.MeaningLemmas.{meaning_law}
-use Rattle.st_sides.proofs.OneValueLemmas.{one_value_law}
+use Rattle.st_sides.proofs.Public.{meaning_law, one_value_law}
 use Rattle.eps_core.specs.Text.{text}
-use Rattle.draw_dom.specs.Points.{point_of}
-use Rattle.draw_vis.proofs.SameLemmas.{pictures_law}
+use Rattle.draw_dom.specs.Points.{vertex_point}
+use Rattle.draw_vis.proofs.Public.{pictures_law}
 use Rattle.stdraw_core.specs.Drawing.{one_each, file_names, IsPictureOf, Depicts, Draws}
 use Rattle.stdraw_core.proofs.GeneratedOne.{same_generated, file_same}
 use Rattle.stdraw_core.proofs.PolylineLemmas.{one_polyline}
@@ -70,12 +69,12 @@ same_line g points p l m different h k =
     let there : IsTrue k.answer ↔ Reaches (arcs_of g.graph) h.from h.to =
     subst (λ z. IsTrue k.answer ↔ Reaches (arcs_of g.graph) z h.to) (sym u) (subst (λ z. IsTrue k.answer ↔ Reaches (arcs_of g.graph) k.from z) (sym v) k.reaches) in
     h.text
-    ∙ ap (λ z. line_of_pair p.0 p.1 z (point_of points h.from) (point_of points h.to)) (same_bool h.answer k.answer h.reaches there)
-    ∙ ap (λ z. line_of_pair p.0 p.1 k.answer (point_of points z) (point_of points h.to)) u
-    ∙ ap (λ z. line_of_pair p.0 p.1 k.answer (point_of points k.from) (point_of points z)) v
+    ∙ ap (λ z. line_of_pair p.0 p.1 z (vertex_point points h.from) (vertex_point points h.to)) (same_bool h.answer k.answer h.reaches there)
+    ∙ ap (λ z. line_of_pair p.0 p.1 k.answer (vertex_point points z) (vertex_point points h.to)) u
+    ∙ ap (λ z. line_of_pair p.0 p.1 k.answer (vertex_point points k.from) (vertex_point points z)) v
     ∙ sym k.text
 
-same_lines : (g : InputGraph) (points : List Point) (ps : List (ℤ × ℤ)) (a b : List ℕ) → AreDifferent g.vertex_names → AreLines g points ps a → AreLines g points ps b → a ≡ b
+same_lines : (g : InputGraph) (points : List Point) (ps : List (ℤ × ℤ)) (a b : List ℕ) → AreDifferent g.vertex_names → AreQueryLines g points ps a → AreQueryLines g points ps b → a ≡ b
 same_lines g points ps a b different (no_line e) (no_line f) = e ∙ sym f
 same_lines g points ps a b different (one_line {p = p} {pairs = more} l rest h r e) (one_line l' rest' h' r' e') =
     e ∙ ap (λ z. z ++ rest) (same_line g points p l l' different h h') ∙ ap (λ z. l' ++ z) (same_lines g points more rest rest' different r r') ∙ sym e'
@@ -83,7 +82,7 @@ same_lines g points ps a b different (one_line {p = p} {pairs = more} l rest h r
 same_answers : (ps : List (ℤ × ℤ)) (g : InputGraph) (st : StValue) → IsConsistent g → IsPlanarSt st.map.graph st.source st.sink st.outer → (a b : List ℕ) → AreAnswers g st ps a → AreAnswers g st ps b → a ≡ b
 same_answers ps g st tables planar a b h k =
     let one : h.points ≡ k.points = one_points st planar h.are.sides k.are.sides (file_names g) h.are.picture k.are.picture h.points k.points h.are.drawn k.are.drawn in
-    same_lines g h.points ps a b tables.different h.lines (subst (λ (z : List Point). AreLines g z ps b) (sym one) k.lines)
+    same_lines g h.points ps a b tables.different h.lines (subst (λ (z : List Point). AreQueryLines g z ps b) (sym one) k.lines)
 
 query_one : (ps : List (ℤ × ℤ)) (g : InputGraph) (st : StValue) → IsConsistent g → IsPlanarSt st.map.graph st.source st.sink st.outer → IsOne (AnswersQuery ps g st)
 query_one ps g st tables planar (Ok a) (Ok b) h k = ok a b (same_answers ps g st tables planar a b h k)
@@ -133,7 +132,7 @@ draw_one form g st tables is (Err r) (Ok b) h k = absurd (valid_not_refused g st
 draw_one form g st tables is (Err r) (Err s) h k = err r s (same_refusal g st tables is form r s h k)
 
 -- ---- all stages
-answers_one : (c : Command) (g : InputGraph) (st : StValue) → IsConsistent g → IsAccepted g (Ok st) → IsOne (Answers c g st)
+answers_one : (c : Command) (g : InputGraph) (st : StValue) → IsConsistent g → IsAccepted g (Ok st) → IsOne (AnswersCommand c g st)
 answers_one (Query ps) g st tables is = query_one ps g st tables (found g st is).planar
 answers_one Test g st tables is = test_one g st
 answers_one (Draw form) g st tables is = draw_one form g st tables (found g st is)
@@ -141,7 +140,7 @@ answers_one (Lattice op from to) g st tables is = lattice_one op from to g st ta
 
 module _ (answer_same : OnePolesAnswer) where
   graph_answers_one : (c : Command) (g : InputGraph) → IsConsistent g → IsOne (AnswersGraph c g)
-  graph_answers_one c g tables = one_then (IsAccepted g) (Answers c g) (accepted_one answer_same g) (λ st is. answers_one c g st tables is)
+  graph_answers_one c g tables = one_then (IsAccepted g) (AnswersCommand c g) (accepted_one answer_same g) (λ st is. answers_one c g st tables is)
 
   file_answers_one : (c : Command) (bytes : List ℕ) → IsOne (AnswersFile c bytes)
   file_answers_one c bytes = one_then (IsGraphWithin bytes) (AnswersGraph c) (graph_within_one bytes) (λ g is. graph_answers_one c g (consistent_within bytes g is))

@@ -3,7 +3,7 @@ use Rattle.std.proofs.Common.{◌≡◌, ◌≢◌, ℕ, ◌≤◌, ℤ, Bool, L
 use Rattle.std.specs.Prelude.{Result, Ok, Err, IfSome}
 use Rattle.std.specs.declared.option.Option.{Option}
 use Rattle.gml_core.specs.Reading.{IsText}
-use Rattle.gml_core.proofs.RoundTrip.{reads_again}
+use Rattle.gml_core.proofs.Public.{reads_again}
 use Rattle.st_bipolar.specs.Kept.{KeepsLists, OrientationKeepsLists}
 use Rattle.st_bipolar.specs.Orientation.{IsOrientation, IsPlane, turned_end}
 use Rattle.st_ids.specs.declared.ids.VertexId.{VertexId}
@@ -11,7 +11,7 @@ use Rattle.st_ids.specs.declared.limits.TheConstants.{MOST_EDGES, MOST_VERTICES}
 use Rattle.st_input.specs.InputGraph.{InputGraph, IsConsistent}
 use Rattle.st_input.specs.Laws.{KeepsLimits, WrittenReadsBack}
 use Rattle.st_input.specs.Written.{with_ends, written_entries}
-use Rattle.st_input.proofs.WrittenLemmas.{ends_fit}
+use Rattle.st_input.proofs.Public.{ends_fit}
 use Rattle.st_map.specs.Embedded.{Embedded, IsRotation, bare, edges}
 use Rattle.st_map.specs.Orders.{embed}
 use Rattle.st_port.specs.Streams.{SourceState, SinkState, Gains}

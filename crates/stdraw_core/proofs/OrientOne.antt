@@ -24,7 +24,7 @@ use Rattle.st_verdict.specs.Stops.{IsStop}
 use Rattle.st_test.specs.declared.digraph_fault.Poles.{Poles}
 use Rattle.st_verdict.specs.File.{IsGraphWithin}
 use Rattle.st_verdict.specs.Stages.{Then, refuses, goes_on, IsOne}
-use Rattle.st_verdict.specs.Verdict.{HasMap, vertex_name, edge_name}
+use Rattle.st_verdict.specs.Verdict.{HasMap, file_vertex_name, file_edge_name}
 use Rattle.st_verdict.proofs.Public.{ok, err, same_ok, mixed, next_says, told_one, same_bool, graph_within_one, consistent_within, map_one}
 use Rattle.stdraw_core.specs.Answer.{AreOutputs}
 use Rattle.stdraw_core.specs.Headline.{IsOrientable}
@@ -86,17 +86,17 @@ pub loopless_one : (g : InputGraph) → IsOne (IsLoopless g)
 loopless_one g (Ok a) (Ok b) h k = refl
 loopless_one g (Ok a) (Err s) h k = absurd (h k.fault k.holds.there k.holds.loop)
 loopless_one g (Err r) (Ok b) h k = absurd (k h.fault h.holds.there h.holds.loop)
-loopless_one g (Err r) (Err s) h k = err r s (told_one (λ e. NoOrientation (Loop (edge_name g e))) (IsFirstLoop g.graph) (first_loop_same g.graph) r s h k)
+loopless_one g (Err r) (Err s) h k = err r s (told_one (λ e. NoOrientation (Loop (file_edge_name g e))) (IsFirstLoop g.graph) (first_loop_same g.graph) r s h k)
 
 -- ---- the faults of the map
 abbrev Euler : Embedded → Type 0
 Euler m = m.vertices + faces m ≡ edges m + 2
 
 data Told (g : InputGraph) (m : Embedded) (s t outer : ℕ) (r : Refusal) : Type 0 where
-  apart : (v : ℕ) → r ≡ NoOrientation (Apart (vertex_name g v)) → IsFirstApart (bare m) s v → Told g m s t outer r
+  apart : (v : ℕ) → r ≡ NoOrientation (Apart (file_vertex_name g v)) → IsFirstApart (bare m) s v → Told g m s t outer r
   bad_faces : r ≡ NotSt (BadFaces m.vertices (edges m) (faces m)) → IsConnected (bare m) s → (Euler m → ⊥) → Told g m s t outer r
   bad_outer : (a b : Bool) → r ≡ NotSt (Outer a b) → IsConnected (bare m) s → Euler m → (IsTrue a ↔ (Touches m outer s → ⊥)) → (IsTrue b ↔ (Touches m outer t → ⊥)) → IsTrue a ⊎ IsTrue b → Told g m s t outer r
-  cut_off : (c v : ℕ) → r ≡ NoOrientation (Cut (vertex_name g c) (vertex_name g v)) → IsConnected (bare m) s → Euler m → Touches m outer s → Touches m outer t → IsFirstCut (bare m) s t c v → Told g m s t outer r
+  cut_off : (c v : ℕ) → r ≡ NoOrientation (Cut (file_vertex_name g c) (file_vertex_name g v)) → IsConnected (bare m) s → Euler m → Touches m outer s → Touches m outer t → IsFirstCut (bare m) s t c v → Told g m s t outer r
 
 numbers : (v e f v' e' f' : ℕ) → v ≡ v' → e ≡ e' → f ≡ f' → NotSt (BadFaces v e f) ≡ NotSt (BadFaces v' e' f')
 numbers v e f v' e' f' p q r = ap (λ z. NotSt (BadFaces z e f)) p ∙ ap (λ z. NotSt (BadFaces v' z f)) q ∙ ap (λ z. NotSt (BadFaces v' e' z)) r
@@ -138,7 +138,7 @@ touched m s t outer a b misses_s misses_t (inl o) at_s at_t = misses_s.0 o at_s
 touched m s t outer a b misses_s misses_t (inr o) at_s at_t = misses_t.0 o at_t
 
 told_same : (g : InputGraph) (m : Embedded) (s t outer : ℕ) (r r' : Refusal) → Told g m s t outer r → Told g m s t outer r' → r ≡ r'
-told_same g m s t outer r r' (apart v e h) (apart v' e' h') = e ∙ ap (λ z. NoOrientation (Apart (vertex_name g z))) (first_apart_same (bare m) s v v' h h') ∙ sym e'
+told_same g m s t outer r r' (apart v e h) (apart v' e' h') = e ∙ ap (λ z. NoOrientation (Apart (file_vertex_name g z))) (first_apart_same (bare m) s v v' h h') ∙ sym e'
 told_same g m s t outer r r' (apart v e h) (bad_faces e' j n) = absurd (no_apart (bare m) s v j h)
 told_same g m s t outer r r' (apart v e h) (bad_outer a b e' j u p q o) = absurd (no_apart (bare m) s v j h)
 told_same g m s t outer r r' (apart v e h) (cut_off c w e' j u p q x) = absurd (no_apart (bare m) s v j h)
@@ -157,7 +157,7 @@ told_same g m s t outer r r' (cut_off c w e j u p q x) (bad_outer a b e' j' u' p
 told_same g m s t outer r r' (cut_off c w e j u p q x) (cut_off c' w' e' j' u' p' q' x') =
     let same : c ≡ c' = cut_same (bare m) s t c w c' w' x x' in
     let moved : IsFirstCut (bare m) s t c w' = subst (λ z. IsFirstCut (bare m) s t z w') (sym same) x' in
-    e ∙ ap (λ z. NoOrientation (Cut (vertex_name g z) (vertex_name g w))) same ∙ ap (λ z. NoOrientation (Cut (vertex_name g c') (vertex_name g z))) (off_same (bare m) s t c w w' x moved) ∙ sym e'
+    e ∙ ap (λ z. NoOrientation (Cut (file_vertex_name g z) (file_vertex_name g w))) same ∙ ap (λ z. NoOrientation (Cut (file_vertex_name g c') (file_vertex_name g z))) (off_same (bare m) s t c w w' x moved) ∙ sym e'
 
 -- what a call says of a fault is an answer to the map
 pub plane_stop : (g : InputGraph) (p : Poles) (m : Embedded) (fault : OrientFault) (stop : Stop) → IsOrientFault m p.source.0 p.sink.0 (outer_at g p m) fault → IsStop (TellsAt g fault) stop → IsStop (AnswersPlane g p m) stop

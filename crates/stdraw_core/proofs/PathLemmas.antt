@@ -15,24 +15,20 @@ use Rattle.st_input.specs.InputGraph.{InputGraph, IsConsistent}
 use Rattle.st_input.specs.Paths.{ArePathsThere, path_name_fault}
 use Rattle.st_input.specs.declared.fault.PathNameFault.{PathNameFault}
 use Rattle.st_input.specs.declared.fault.PathNameFault.TheVariants as unknown
-use Rattle.st_input.proofs.PathLemmas.{paths_within}
+use Rattle.st_input.proofs.Public.{paths_within}
 use Rattle.st_test.specs.Planar.{StValue}
 use Rattle.st_shape.specs.Rules.{Drawing}
 use Rattle.st_sides.specs.Sides.{SidesValue, IsSides, edge_count}
 use Rattle.st_sides.specs.SidesOf.{IsSidesOf}
-use Rattle.st_sides.proofs.MeaningLemmas.{meaning_law}
-use Rattle.st_sides.proofs.OneValueLemmas.{one_value_law}
-use Rattle.st_sides.proofs.PlaceLists.{in_at}
+use Rattle.st_sides.proofs.Public.{meaning_law, one_value_law, in_at}
 use Rattle.st_picture.specs.Drawn.{IsDrawn}
 use Rattle.st_picture.specs.Naming.{AreNames}
 use Rattle.draw_align.specs.Constrained.{IsAligned, IsConstrained, IsConstrainedBy}
-use Rattle.draw_align.specs.Faults.{AreThere, IsFirstFault, IsPathFault}
+use Rattle.draw_align.specs.Faults.{AreThere, IsFirstPathFault, IsPathFault}
 use Rattle.draw_align.specs.Listed.{AreSound, path_at}
 use Rattle.draw_align.specs.declared.path_fault.PathFault.{PathFault}
 use Rattle.draw_align.specs.declared.path_fault.PathFault.TheVariants as fault
-use Rattle.draw_align.proofs.FaultLemmas.{fault_law}
-use Rattle.draw_align.proofs.PictureLemmas.{constrained_law}
-use Rattle.draw_align.proofs.SameLemmas.{picture_law}
+use Rattle.draw_align.proofs.Public.{fault_law, constrained_law, picture_law}
 use Rattle.st_words.specs.declared.words.DrawForm.{DrawForm}
 use Rattle.st_words.specs.declared.words.DrawForm.TheVariants.{Visibility, Tessellation, Constrained, Polyline, Dominance}
 use Rattle.st_report.specs.declared.stop.BadPath.{BadPath}
@@ -115,7 +111,7 @@ module _ (g : InputGraph) (st : StValue) (tables : IsConsistent g) (is : IsFound
   same_bad a b (first_fault known x are f first tells) (unknown_edge p n e q) = absurd (known_apart g _ known e)
   same_bad a b (first_fault known x are f first tells) (first_fault known' y are' f' first' tells') =
       let one : y ≡ x = same_sides y x are' are in
-      let moved : IsFirstFault x (paths_in g) f' = subst (λ (z : SidesValue). IsFirstFault z (paths_in g) f') one first' in
+      let moved : IsFirstPathFault x (paths_in g) f' = subst (λ (z : SidesValue). IsFirstPathFault z (paths_in g) f') one first' in
       let same : f ≡ f' = (fault_law x (are_sides x are) (paths_in g) (edges_there x are.sides known)).one f f' first moved in
       told_same g f' a b (subst (λ (z : PathFault). TellsPath g z a) same tells) tells'
 
@@ -123,7 +119,7 @@ module _ (g : InputGraph) (st : StValue) (tables : IsConsistent g) (is : IsFound
   sound_not_bad x are known sound why (unknown_edge p n e q) = known_apart g _ known e
   sound_not_bad x are known sound why (first_fault known' y are' f first tells) =
       let one : y ≡ x = same_sides y x are' are in
-      (fault_law x (are_sides x are) (paths_in g) (edges_there x are.sides known)).none f sound (subst (λ (z : SidesValue). IsFirstFault z (paths_in g) f) one first)
+      (fault_law x (are_sides x are) (paths_in g) (edges_there x are.sides known)).none f sound (subst (λ (z : SidesValue). IsFirstPathFault z (paths_in g) f) one first)
 
   pub valid_not_refused : (form : DrawForm) (r : Refusal) → HasValidPaths form g st → RefusesDraw form g st r → ⊥
   valid_not_refused Visibility r h k = k
@@ -157,14 +153,14 @@ module _ (g : InputGraph) (st : StValue) (tables : IsConsistent g) (is : IsFound
 -- ---- faults that the code is told
 -- what is told of the first fault
 pub path_told : (g : InputGraph) (st : StValue) (x : SidesValue) (ps : List (List ℕ)) → ps ≡ paths_in g → HasKnownEdges g → AreSidesIn st x → (f : PathFault) (why : BadPath) → IsPathFault x ps f → TellsPath g f why → IsBadPath g st why
-path_told g st x ps same known are (fault.NotAPath p) why h tells = first_fault known x are (fault.NotAPath p) (subst (λ z. IsFirstFault x z (fault.NotAPath p)) same h) tells
-path_told g st x ps same known are (fault.SharedEdge p e) why h tells = first_fault known x are (fault.SharedEdge p e) (subst (λ z. IsFirstFault x z (fault.SharedEdge p e)) same h) tells
-path_told g st x ps same known are (fault.Crossing p q v) why h tells = first_fault known x are (fault.Crossing p q v) (subst (λ z. IsFirstFault x z (fault.Crossing p q v)) same h) tells
+path_told g st x ps same known are (fault.NotAPath p) why h tells = first_fault known x are (fault.NotAPath p) (subst (λ z. IsFirstPathFault x z (fault.NotAPath p)) same h) tells
+path_told g st x ps same known are (fault.SharedEdge p e) why h tells = first_fault known x are (fault.SharedEdge p e) (subst (λ z. IsFirstPathFault x z (fault.SharedEdge p e)) same h) tells
+path_told g st x ps same known are (fault.Crossing p q v) why h tells = first_fault known x are (fault.Crossing p q v) (subst (λ z. IsFirstPathFault x z (fault.Crossing p q v)) same h) tells
 path_told g st x ps same known are fault.NoMemory why h tells = absurd tells
 
 -- the shared edge and the vertex of a crossing are there
 pub shared_there : (g : InputGraph) (st : StValue) (x : SidesValue) → IsFound g st → IsSidesOf st.map.graph st.source st.sink st.outer x → (ps : List (List ℕ)) → AreThere x ps
-    → (p : ℕ) (e : EdgeId) → IsFirstFault x ps (fault.SharedEdge p e) → e.0 < length g.graph.ends
+    → (p : ℕ) (e : EdgeId) → IsFirstPathFault x ps (fault.SharedEdge p e) → e.0 < length g.graph.ends
 unfolding edge_count
 shared_there g st x is of ps there p e h =
     let l : e.0 < length x.ends = there h.path e.0 h.there (in_at e.0 (path_at ps h.path) h.fault.2.place h.fault.2.there h.fault.2.is) in
@@ -172,7 +168,7 @@ shared_there g st x is of ps there p e h =
     omega arith
 
 pub crossing_there : (g : InputGraph) (st : StValue) (x : SidesValue) → IsFound g st → IsSidesOf st.map.graph st.source st.sink st.outer x → IsSides x → (ps : List (List ℕ)) → AreThere x ps
-    → (p q : ℕ) (v : VertexId) → IsFirstFault x ps (fault.Crossing p q v) → v.0 < g.graph.vertices
+    → (p q : ℕ) (v : VertexId) → IsFirstPathFault x ps (fault.Crossing p q v) → v.0 < g.graph.vertices
 crossing_there g st x is of S ps there p q v h =
     let e = get_or (path_at ps h.path) h.fault.3.place 0 in
     let i : In e (path_at ps h.path) = in_at e (path_at ps h.path) h.fault.3.place h.fault.3.there refl in

@@ -7,9 +7,7 @@ use Rattle.st_map.specs.Embedded.{Embedded, bare, darts, edges, head, order, tai
 use Rattle.st_map.specs.Orders.{HasNoLoop}
 use Rattle.st_test.specs.Planar.{AcyclicIsLoopless, IsPlanarSt}
 use Rattle.st_bipolar.specs.Orientation.{IsOrientation, IsPlane, IsTurned, turned_end}
-use Rattle.st_bipolar.proofs.OrientLemmas.{st_from_source}
-use Rattle.st_bipolar.proofs.RebuildLemmas.{map_map}
-use Rattle.st_bipolar.proofs.TurnLemmas.{q, q_q, q_in, turned_ends, kept_ends, ends_in_h, orders_h}
+use Rattle.st_bipolar.proofs.Public.{st_from_source, map_map, q, q_q, q_in, turned_ends, kept_ends, ends_in_h, orders_h}
 
 module _ (m h : Embedded) (b : ℕ → Bool) (T : IsTurned m h b) where
   twice : (d : ℕ) → turned_end b (turned_end b d) ≡ d

@@ -7,14 +7,14 @@ use Rattle.st_map.specs.Embedded.{Embedded, edges, tail, head}
 use Rattle.st_shape.specs.Rules.{Drawing}
 use Rattle.st_sides.specs.Sides.{SidesValue, IsSides, edge_count, edge_tail, edge_head, left_of, right_of}
 use Rattle.st_sides.specs.SidesOf.{IsSidesOf}
-use Rattle.st_sides.proofs.ReaderLemmas.{left_within, right_within}
+use Rattle.st_sides.proofs.Public.{left_within, right_within}
 use Rattle.st_number.specs.Parallel.{IsParallel, HasParallel}
-use Rattle.st_number.proofs.NumberLemmas.{numbers_law}
+use Rattle.st_number.proofs.Public.{numbers_law}
 use Rattle.draw_poly.specs.Numbers.{AreLong}
 use Rattle.draw_poly.specs.Polyline.{IsPolylines}
-use Rattle.draw_poly.proofs.SameLemmas.{one_placed}
+use Rattle.draw_poly.proofs.Public.{one_placed}
 use Rattle.st_words.specs.declared.words.Spot.{Spot}
-use Rattle.stdraw_core.specs.Drawing.{AreRows, place_of, IsPlacedPolyline}
+use Rattle.stdraw_core.specs.Drawing.{AreRows, spot_place, IsPlacedPolyline}
 use Rattle.stdraw_core.proofs.DrawingLemmas.{same_numbers}
 
 -- ---- whether an edge has a parallel
@@ -94,7 +94,7 @@ module _ (g : Embedded) (s t outer : ℕ) (x : SidesValue) (of : IsSidesOf g s t
       let column : (f : ℕ) → f ≤ x.t_star → A.picture.c f ≡ B.picture.c f = λ f l. (numbers_law x S).same_columns A.picture.c B.picture.c A.picture.numbers.column B.picture.numbers.column f l in
       one_placed x S A.weight A.column B.column
       (λ v l. A.placed v l
-      ∙ ap (λ z. place_of spot z (A.picture.c (right_of x v) - 1)) (column (left_of x v) (left_within x S v l))
-      ∙ ap (λ z. place_of spot (B.picture.c (left_of x v)) (z - 1)) (column (right_of x v) (right_within x S v l))
+      ∙ ap (λ z. spot_place spot z (A.picture.c (right_of x v) - 1)) (column (left_of x v) (left_within x S v l))
+      ∙ ap (λ z. spot_place spot (B.picture.c (left_of x v)) (z - 1)) (column (right_of x v) (right_within x S v l))
       ∙ sym (B.placed v l))
       N d d' A.picture (under B.weight A.weight same B.column N d' B.picture)

@@ -8,15 +8,15 @@ use Rattle.st_ids.specs.Graph.{arcs_of}
 use Rattle.st_input.specs.InputGraph.{InputGraph}
 use Rattle.st_picture.specs.Items.{origin}
 use Rattle.st_shape.specs.declared.point.Point.{Point}
-use Rattle.draw_dom.specs.Points.{AreAtMost, point_of}
+use Rattle.draw_dom.specs.Points.{IsPointAtMost, vertex_point}
 use Rattle.st_report.specs.declared.stop.Refusal.TheVariants.{UnknownVertex}
 use Rattle.st_report.specs.declared.stop.Stop.{Stop}
 use Rattle.st_report.specs.declared.stop.Stop.TheVariants.{Refused}
 use Rattle.st_verdict.specs.Stops.{IsStop}
-use Rattle.stdraw_core.specs.Query.{AnswersPairs, IsNamed, IsKnown, IsUnknown, names_of, AreKnown, IsFirstUnknown, line_of_pair, IsLine, AreLines, no_line, one_line}
+use Rattle.stdraw_core.specs.Query.{AnswersPairs, IsNamed, IsKnownName, IsUnknown, names_of, AreKnown, IsFirstUnknown, line_of_pair, IsLine, AreQueryLines, no_line, one_line}
 
 -- ---- names
-pub known_push : (g : InputGraph) (ps : List (ℤ × ℤ)) (p : ℤ × ℤ) → AreKnown g (names_of ps) → IsKnown g p.0 → IsKnown g p.1 → AreKnown g (names_of (ps ++ p ∷ []))
+pub known_push : (g : InputGraph) (ps : List (ℤ × ℤ)) (p : ℤ × ℤ) → AreKnown g (names_of ps) → IsKnownName g p.0 → IsKnownName g p.1 → AreKnown g (names_of (ps ++ p ∷ []))
 known_push g [] p all a b = (a, (b, tt))
 known_push g (q ∷ ps) p all a b = (all.0, (all.1.0, known_push g ps p all.1.1 a b))
 
@@ -24,12 +24,12 @@ pub unknown_first : (g : InputGraph) (ps qs : List (ℤ × ℤ)) (p : ℤ × ℤ
 unknown_first g [] qs p all bad = inl (bad, refl)
 unknown_first g (q ∷ ps) qs p all bad = inr (all.0, inr (all.1.0, unknown_first g ps qs p all.1.1 bad))
 
-pub unknown_second : (g : InputGraph) (ps qs : List (ℤ × ℤ)) (p : ℤ × ℤ) → AreKnown g (names_of ps) → IsKnown g p.0 → IsUnknown g p.1 → IsFirstUnknown g (names_of (ps ++ p ∷ qs)) p.1
+pub unknown_second : (g : InputGraph) (ps qs : List (ℤ × ℤ)) (p : ℤ × ℤ) → AreKnown g (names_of ps) → IsKnownName g p.0 → IsUnknown g p.1 → IsFirstUnknown g (names_of (ps ++ p ∷ qs)) p.1
 unknown_second g [] qs p all good bad = inr (good, inl (bad, refl))
 unknown_second g (q ∷ ps) qs p all good bad = inr (all.0, inr (all.1.0, unknown_second g ps qs p all.1.1 good bad))
 
 -- ---- lines
-pub lines_push : (g : InputGraph) (points : List Point) (ps : List (ℤ × ℤ)) (p : ℤ × ℤ) (out line : List ℕ) → AreLines g points ps out → IsLine g points p line → AreLines g points (ps ++ p ∷ []) (out ++ line)
+pub lines_push : (g : InputGraph) (points : List Point) (ps : List (ℤ × ℤ)) (p : ℤ × ℤ) (out line : List ℕ) → AreQueryLines g points ps out → IsLine g points p line → AreQueryLines g points (ps ++ p ∷ []) (out ++ line)
 lines_push g points ps p out line (no_line e) new = one_line line [] new (no_line refl) (ap (λ l. l ++ line) e ∙ sym (append-nil line))
 lines_push g points ps p out line (one_line first rest l more e) new =
     one_line first (rest ++ line) l (lines_push g points _ p rest line more new) (ap (λ z. z ++ line) e ∙ append_assoc first rest line)
@@ -45,21 +45,21 @@ take_push xs i d l = take_more xs i d l
 pub stops_first : (g : InputGraph) (ps qs : List (ℤ × ℤ)) (p : ℤ × ℤ) (n : ℤ) → n ≡ p.0 → AreKnown g (names_of ps) → IsUnknown g n → IsFirstUnknown g (names_of (ps ++ p ∷ qs)) n
 stops_first g ps qs p n e all bad = subst (λ z. IsFirstUnknown g (names_of (ps ++ p ∷ qs)) z) (sym e) (unknown_first g ps qs p all (subst (IsUnknown g) e bad))
 
-pub stops_second : (g : InputGraph) (ps qs : List (ℤ × ℤ)) (p : ℤ × ℤ) (n m : ℤ) → n ≡ p.0 → m ≡ p.1 → AreKnown g (names_of ps) → IsKnown g n → IsUnknown g m → IsFirstUnknown g (names_of (ps ++ p ∷ qs)) m
+pub stops_second : (g : InputGraph) (ps qs : List (ℤ × ℤ)) (p : ℤ × ℤ) (n m : ℤ) → n ≡ p.0 → m ≡ p.1 → AreKnown g (names_of ps) → IsKnownName g n → IsUnknown g m → IsFirstUnknown g (names_of (ps ++ p ∷ qs)) m
 stops_second g ps qs p n m e f all good bad =
-    subst (λ z. IsFirstUnknown g (names_of (ps ++ p ∷ qs)) z) (sym f) (unknown_second g ps qs p all (subst (IsKnown g) e good) (subst (IsUnknown g) f bad))
+    subst (λ z. IsFirstUnknown g (names_of (ps ++ p ∷ qs)) z) (sym f) (unknown_second g ps qs p all (subst (IsKnownName g) e good) (subst (IsUnknown g) f bad))
 
 -- the two vertices of a pair's names with their points, and whether the one reaches the other
 pub record IsPair (g : InputGraph) (points : List Point) (n m : ℤ) (u v : ℕ) (answer : Bool) (p q : Point) : Type 0 where
   pub from : IsNamed g u n
   pub to : IsNamed g v m
-  pub at_most : IsTrue answer ↔ AreAtMost points u v
-  pub decides : Reaches (arcs_of g.graph) u v ↔ AreAtMost points u v
+  pub at_most : IsTrue answer ↔ IsPointAtMost points u v
+  pub decides : Reaches (arcs_of g.graph) u v ↔ IsPointAtMost points u v
   pub first : slice_get points u ≡ Some p
   pub second : slice_get points v ≡ Some q
 
-point_read : (points : List Point) (v : ℕ) (p : Point) → slice_get points v ≡ Some p → point_of points v ≡ p
-unfolding point_of
+point_read : (points : List Point) (v : ℕ) (p : Point) → slice_get points v ≡ Some p → vertex_point points v ≡ p
+unfolding vertex_point
 point_read points v p e = get_or_from_slice_get points v p origin e
 
 pair_line : (g : InputGraph) (points : List Point) (r : ℤ × ℤ) (u v : ℕ) (answer : Bool) (p q : Point) → IsPair g points r.0 r.1 u v answer p q → IsLine g points r (line_of_pair r.0 r.1 answer p q)
@@ -71,7 +71,7 @@ pair_line g points r u v answer p q h = record {
   answer = answer;
   reaches = ((λ y. h.decides.1 (h.at_most.0 y)), (λ w. h.at_most.1 (h.decides.0 w)));
   at_most = h.at_most;
-  text = ap (λ z. line_of_pair r.0 r.1 answer z q) (sym (point_read points u p h.first)) ∙ ap (λ z. line_of_pair r.0 r.1 answer (point_of points u) z) (sym (point_read points v q h.second));
+  text = ap (λ z. line_of_pair r.0 r.1 answer z q) (sym (point_read points u p h.first)) ∙ ap (λ z. line_of_pair r.0 r.1 answer (vertex_point points u) z) (sym (point_read points v q h.second));
 }
 
 same_pair : (g : InputGraph) (points : List Point) (n m n' m' : ℤ) (u v : ℕ) (answer : Bool) (p q : Point) → n ≡ n' → m ≡ m' → IsPair g points n m u v answer p q → IsPair g points n' m' u v answer p q
@@ -80,7 +80,7 @@ same_pair g points n m n' m' u v answer p q e f h = subst (λ z. IsPair g points
 -- the names and the lines so far
 pub record AreAnswered (g : InputGraph) (points : List Point) (ps : List (ℤ × ℤ)) (out : List ℕ) : Type 0 where
   pub known : AreKnown g (names_of ps)
-  pub lines : AreLines g points ps out
+  pub lines : AreQueryLines g points ps out
 
 pub answered_push : (g : InputGraph) (points : List Point) (ps : List (ℤ × ℤ)) (r : ℤ × ℤ) (out out' : List ℕ) (n m : ℤ) (u v : ℕ) (answer : Bool) (p q : Point) → AreAnswered g points ps out → n ≡ r.0 → m ≡ r.1
     → IsPair g points n m u v answer p q → out' ≡ out ++ line_of_pair n m answer p q → AreAnswered g points (ps ++ r ∷ []) out'
@@ -90,7 +90,7 @@ answered_push g points ps r out out' n m u v answer p q h e f pair text =
     let text' : out' ≡ out ++ line_of_pair r.0 r.1 answer p q = text ∙ ap (λ z. out ++ line_of_pair z m answer p q) e ∙ ap (λ z. out ++ line_of_pair r.0 z answer p q) f in
     record {
       known = known_push g ps r h.known (u, same.from) (v, same.to);
-      lines = subst (λ t. AreLines g points (ps ++ r ∷ []) t) (sym text') (lines_push g points ps r out (line_of_pair r.0 r.1 answer p q) h.lines line);
+      lines = subst (λ t. AreQueryLines g points (ps ++ r ∷ []) t) (sym text') (lines_push g points ps r out (line_of_pair r.0 r.1 answer p q) h.lines line);
     }
 
 -- what is told of the first name that no vertex has

@@ -42,15 +42,15 @@ use Rattle.st_words.specs.Words.{IsCommand, IsTask, IsFileless, HasOneTask}
 use Rattle.st_verdict.specs.File.{IsFew, IsTree, IsGraph, IsGraphIn, IsGraphWithin}
 use Rattle.st_verdict.specs.Stages.{Then, refuses, goes_on, IsToldBy}
 use Rattle.st_verdict.specs.Stops.{Gives, StopsAt}
-use Rattle.st_verdict.specs.Verdict.{HasPoles, HasNoPoles, HasMap, IsPlanar, IsNotPlanar, IsAccepted, vertex_name, edge_name}
-use Rattle.stdraw_core.specs.Answer.{Answers, AnswersGraph, AnswersTask}
+use Rattle.st_verdict.specs.Verdict.{HasPoles, HasNoPoles, HasMap, IsPlanar, IsNotPlanar, IsAccepted, file_vertex_name, file_edge_name}
+use Rattle.stdraw_core.specs.Answer.{AnswersCommand, AnswersGraph, AnswersTask}
 use Rattle.stdraw_core.specs.Drawing.{AnswersDraw}
 use Rattle.st_bipolar.specs.declared.orienting.OrientFault.{OrientFault}
 use Rattle.st_bipolar.specs.declared.orienting.OrientFault.TheVariants as orient_fault
 use Rattle.stdraw_core.specs.Oriented.{ArePolesNamed, AreTwo, IsFirstLoop, IsLoopless, TellsOrient, AnswersPlane, AnswersPoles, AnswersGraphOriented}
 use Rattle.stdraw_core.specs.Paths.{IsBadPath}
 use Rattle.stdraw_core.specs.Query.{IsFirstUnknown, names_of}
-use Rattle.stdraw_core.specs.Run.{most_bytes, TakesAtMost, TakesFew, IsFailedRead, Leaves, HasRead, IsReadAs, HasNoGraph, Finds, IsReady, IsRefused, Decides, EndsBy, is_done, is_refused, is_unread, is_cut, no_memory}
+use Rattle.stdraw_core.specs.Run.{most_bytes, TakesAtMost, TakesFew, IsFailedRead, Leaves, HasReadInput, IsReadAs, HasNoGraph, Finds, IsReady, IsRefusedWith, Decides, EndsBy, is_done, is_refused, is_unread, is_cut, no_memory}
 
 -- ---- what was read
 -- the bytes that are answered, where these were taken
@@ -139,7 +139,7 @@ module _ (r : Refusal) (early : IsEarly r) where
   never_accepted g =
       never_then r (HasPoles g) (λ p. Then (HasMap g) (IsPlanar g p)) (never_told (λ why. NotSt why) (HasNoPoles g) r early.not_st)
       (λ p. never_then r (HasMap g) (IsPlanar g p)
-      (never_told (λ (v : VertexId). NotSt (BadOrder (vertex_name g v.0))) (λ v. IsMapFault g.graph g.orders (map_fault.BadOrder v)) r (λ v. early.not_st (BadOrder (vertex_name g v.0))))
+      (never_told (λ (v : VertexId). NotSt (BadOrder (file_vertex_name g v.0))) (λ v. IsMapFault g.graph g.orders (map_fault.BadOrder v)) r (λ v. early.not_st (BadOrder (file_vertex_name g v.0))))
       (λ m. never_told (λ why. NotSt why) (IsNotPlanar g p m) r early.not_st))
 
   never_drawn : (form : DrawForm) (g : InputGraph) (st : StValue) → NeverGives r (AnswersDraw form g st)
@@ -149,30 +149,30 @@ module _ (r : Refusal) (early : IsEarly r) where
   never_drawn (Polyline spot) g st = λ h. h
   never_drawn Dominance g st = λ h. h
 
-  never_answered : (command : Command) (g : InputGraph) (st : StValue) → NeverGives r (Answers command g st)
+  never_answered : (command : Command) (g : InputGraph) (st : StValue) → NeverGives r (AnswersCommand command g st)
   never_answered (Query ps) g st = never_told (λ n. UnknownVertex n) (IsFirstUnknown g (names_of ps)) r early.unknown
   never_answered Test g st = λ h. h
   never_answered (Draw form) g st = never_drawn form g st
   never_answered (Lattice op from to) g st = never_told (λ n. UnknownVertex n) (IsFirstUnknown g (from ∷ to ∷ [])) r early.unknown
 
   never_graph : (command : Command) (g : InputGraph) → NeverGives r (AnswersGraph command g)
-  never_graph command g = never_then r (IsAccepted g) (Answers command g) (never_accepted g) (never_answered command g)
+  never_graph command g = never_then r (IsAccepted g) (AnswersCommand command g) (never_accepted g) (never_answered command g)
 
   -- what is told of a fault is none of these
   never_fault : (g : InputGraph) (fault : OrientFault) → TellsOrient g fault r → ⊥
-  never_fault g (orient_fault.Apart v) h = early.oriented (Apart (vertex_name g v.0)) h
+  never_fault g (orient_fault.Apart v) h = early.oriented (Apart (file_vertex_name g v.0)) h
   never_fault g (orient_fault.BadFaces v e f) h = early.not_st (BadFaces v e f) h
   never_fault g (orient_fault.Outer a b) h = early.not_st (Outer a b) h
-  never_fault g (orient_fault.Cut c v) h = early.oriented (Cut (vertex_name g c.0) (vertex_name g v.0)) h
+  never_fault g (orient_fault.Cut c v) h = early.oriented (Cut (file_vertex_name g c.0) (file_vertex_name g v.0)) h
   never_fault g orient_fault.NoMemory h = h
 
   never_oriented : (from to : ℤ) (g : InputGraph) → NeverGives r (AnswersGraphOriented from to g)
   never_oriented from to g =
       never_then r (ArePolesNamed from to g) (AnswersPoles g) (never_told (λ n. UnknownVertex n) (IsFirstUnknown g (from ∷ to ∷ [])) r early.unknown)
       (λ p. never_then r (AreTwo p) (λ _. Then (IsLoopless g) (λ _. Then (HasMap g) (AnswersPlane g p))) (λ h. early.oriented OnePole h.0)
-      (λ _. never_then r (IsLoopless g) (λ _. Then (HasMap g) (AnswersPlane g p)) (never_told (λ e. NoOrientation (Loop (edge_name g e))) (IsFirstLoop g.graph) r (λ e. early.oriented (Loop (edge_name g e))))
+      (λ _. never_then r (IsLoopless g) (λ _. Then (HasMap g) (AnswersPlane g p)) (never_told (λ e. NoOrientation (Loop (file_edge_name g e))) (IsFirstLoop g.graph) r (λ e. early.oriented (Loop (file_edge_name g e))))
       (λ _. never_then r (HasMap g) (AnswersPlane g p)
-      (never_told (λ (v : VertexId). NotSt (BadOrder (vertex_name g v.0))) (λ v. IsMapFault g.graph g.orders (map_fault.BadOrder v)) r (λ v. early.not_st (BadOrder (vertex_name g v.0))))
+      (never_told (λ (v : VertexId). NotSt (BadOrder (file_vertex_name g v.0))) (λ v. IsMapFault g.graph g.orders (map_fault.BadOrder v)) r (λ v. early.not_st (BadOrder (file_vertex_name g v.0))))
       (λ m h. never_fault g h.0 h.2))))
 
 -- ---- what a refusal leaves
@@ -297,7 +297,7 @@ oriented_for_words from to g (Ok out) gives e = absurd (no_stop e)
 oriented_for_words from to g (Err stop) gives e = never_oriented Words words_early from to g (subst (λ z. Gives (AnswersGraphOriented from to g) (Err z)) (same_stop stop (Refused Words) e) gives)
 
 -- ---- words that ask for no file
-pub words_refused : (words : List (List ℕ)) (old new : SourceState) → ((task : Task) → IsTask words task → ⊥) → IsRefused words old new Words
+pub words_refused : (words : List (List ℕ)) (old new : SourceState) → ((task : Task) → IsTask words task → ⊥) → IsRefusedWith words old new Words
 words_refused words old new none =
     let b = some_bytes old.left in
     record { bytes = b.0; told = b.1; answer = refuses Words (refl, none) refl; leaves = tt }
@@ -309,7 +309,7 @@ fileless_given (Orient from to) bytes r off h = off
 fileless_given (Gen recipe) bytes r off h = h
 fileless_given (Bench recipe form) bytes r off h = h
 
-reads_nothing : (task : Task) (s : SourceState) → IsFileless task → HasRead task s s
+reads_nothing : (task : Task) (s : SourceState) → IsFileless task → HasReadInput task s s
 reads_nothing (File command) s off = absurd off
 reads_nothing Check s off = absurd off
 reads_nothing (Orient from to) s off = absurd off

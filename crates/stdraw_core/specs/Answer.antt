@@ -1,7 +1,7 @@
 -- The program's answer to words and the bytes of a file, found in stages.
 --   AreAlike words x y               two answers are the same, or both are orientations; HaveOneAnswer: so are any two
 --   Asks words                       the task that the words ask for
---   Answers command g st             what a command answers about a planar st-graph; each has a file of its own
+--   AnswersCommand command g st      what a command answers about a planar st-graph; each has a file of its own
 --   AnswersGraph, AnswersFile        the same about a graph, which is tested first, and about the bytes of a file
 --   AnswersTask task bytes answer    what is answered to a task: the file is looked at only where it asks for one
 --   IsAnswer words bytes answer      an output, or the first refusal
@@ -34,15 +34,15 @@ Asks words (Ok task) = IsTask words task
 Asks words (Err r) = (r ≡ Words) × ((task : Task) → IsTask words task → ⊥)
 
 -- what the command answers about a planar st-graph
-abbrev pub Answers : Command → InputGraph → StValue → Result (List ℕ) Refusal → Type 0
-Answers (Query pairs) g st answer = AnswersQuery pairs g st answer
-Answers Test g st answer = AnswersTest g st answer
-Answers (Draw form) g st answer = AnswersDraw form g st answer
-Answers (Lattice op from to) g st answer = AnswersLattice op from to g st answer
+abbrev pub AnswersCommand : Command → InputGraph → StValue → Result (List ℕ) Refusal → Type 0
+AnswersCommand (Query pairs) g st answer = AnswersQuery pairs g st answer
+AnswersCommand Test g st answer = AnswersTest g st answer
+AnswersCommand (Draw form) g st answer = AnswersDraw form g st answer
+AnswersCommand (Lattice op from to) g st answer = AnswersLattice op from to g st answer
 
 -- what the command answers to a graph: the graph is tested first
 abbrev pub AnswersGraph : Command → InputGraph → Result (List ℕ) Refusal → Type 0
-AnswersGraph command g = Then (IsAccepted g) (Answers command g)
+AnswersGraph command g = Then (IsAccepted g) (AnswersCommand command g)
 
 -- what the command answers to a file: its graph comes first
 abbrev pub AnswersFile : Command → List ℕ → Result (List ℕ) Refusal → Type 0

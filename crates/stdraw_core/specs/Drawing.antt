@@ -3,7 +3,7 @@
 --   one_each                   each edge weighs 1
 --   file_names g               the names and labels of the file
 --   AreRows g w                the weights of a polyline picture: 2 where another edge has the same ends, else 1
---   place_of spot lo hi        the column of a dot between the ends of a bar
+--   spot_place spot lo hi      the column of a dot between the ends of a bar
 --   AnswersRows, AnswersPlaces what closures have to answer for these weights and columns
 --   IsPlacedPolyline           the polyline picture with these weights and columns
 --   IsReducedPicture st x N d  the dominance picture, by the reduced graph
@@ -20,7 +20,7 @@ use Rattle.st_map.specs.Embedded.{Embedded, edges, order}
 use Rattle.st_test.specs.Planar.{StValue}
 use Rattle.st_sides.specs.Sides.{SidesValue, outs, ins, left_of, right_of}
 use Rattle.st_sides.specs.Normal.{clockwise}
-use Rattle.st_sides.specs.Rotation.{IsRotation}
+use Rattle.st_sides.specs.Rotation.{IsCyclicShift}
 use Rattle.st_shape.specs.Rules.{Drawing, IsPicture}
 use Rattle.st_picture.specs.Drawn.{IsDrawn}
 use Rattle.st_ids.specs.declared.ids.EdgeId.{EdgeId}
@@ -58,10 +58,10 @@ pub record AreRows (g : Embedded) (w : ℕ → ℕ) : Type 0 where
   pub single : (e : ℕ) → e < edges g → ¬ HasParallel g e → w e ≡ 1
 
 -- at the left end of the bar, in its middle, or at its right end
-abbrev pub place_of : Spot → ℕ → ℕ → ℕ
-place_of Left lo hi = lo
-place_of Middle lo hi = lo + (hi - lo) / 2
-place_of Right lo hi = hi
+abbrev pub spot_place : Spot → ℕ → ℕ → ℕ
+spot_place Left lo hi = lo
+spot_place Middle lo hi = lo + (hi - lo) / 2
+spot_place Right lo hi = hi
 
 -- whatever the closure answers on an edge of the graph is how many rows it takes
 pub record AnswersRows (answer : EdgeId → ℕ → Type 0) (g : Embedded) : Type 0 where
@@ -70,7 +70,7 @@ pub record AnswersRows (answer : EdgeId → ℕ → Type 0) (g : Embedded) : Typ
 
 -- whatever the closure answers between two ends of a bar is the column of the spot
 abbrev pub AnswersPlaces : Spot → (ℤ → ℤ → ℤ → Type 0) → Type 0
-AnswersPlaces spot answer = (l h : ℕ) (x : ℤ) → AreEnds (pos l) (pos h) → answer (pos l) (pos h) x → x ≡ pos (place_of spot l h)
+AnswersPlaces spot answer = (l h : ℕ) (x : ℤ) → AreEnds (pos l) (pos h) → answer (pos l) (pos h) x → x ≡ pos (spot_place spot l h)
 
 -- The polyline picture in which each vertex stands at this spot of its bar.
 pub record IsPlacedPolyline (spot : Spot) (g : Embedded) (x : SidesValue) (N : Names) (d : Drawing) : Type 0 where
@@ -78,7 +78,7 @@ pub record IsPlacedPolyline (spot : Spot) (g : Embedded) (x : SidesValue) (N : N
   pub rows : AreRows g weight
   pub column : ℕ → ℕ
   pub picture : IsPolylines x weight column N d
-  pub placed : (v : ℕ) → v < x.vertices → column v ≡ place_of spot (picture.c (left_of x v)) (picture.c (right_of x v) - 1)
+  pub placed : (v : ℕ) → v < x.vertices → column v ≡ spot_place spot (picture.c (left_of x v)) (picture.c (right_of x v) - 1)
 
 -- The dominance picture, with the points of the vertices in the reduced graph.
 pub record IsReducedPicture (st : StValue) (x : SidesValue) (N : Names) (d : Drawing) : Type 0 where
@@ -127,7 +127,7 @@ IsRightPicture Dominance g x d = IsDrawn x d × ShowsReaching x d
 pub record ShowsFile (form : DrawForm) (g : InputGraph) (st : StValue) (out : List ℕ) : Type 0 where
   pub drawn : Draws form g st out
   pub right : IsRightPicture form g drawn.depicts.sides drawn.picture
-  pub orders : (v : ℕ) → v < st.map.graph.vertices → IsRotation (order st.map.graph v) (clockwise (outs drawn.depicts.sides v) (ins drawn.depicts.sides v))
+  pub orders : (v : ℕ) → v < st.map.graph.vertices → IsCyclicShift (order st.map.graph v) (clockwise (outs drawn.depicts.sides v) (ins drawn.depicts.sides v))
 
 -- what a drawing answers: the text of the picture of the form, or why the paths can't be drawn
 abbrev pub AnswersDraw : DrawForm → InputGraph → StValue → Result (List ℕ) Refusal → Type 0

@@ -1,7 +1,7 @@
 -- What a join or a meet answers about a planar st-graph.
 -- Letters: g graph of the file, st planar st-graph, x its sides, u, v and w vertices, op which bound.
 --   IsBound op x u v w           w is the join of u and v, or their meet
---   Leads op x u w               u reaches w, or is reached from it: so stand two vertices and their bound
+--   ReachesBound op x u w        u reaches w, or is reached from it: so stand two vertices and their bound
 --   bound_line, walk_line        the names of two vertices and of their bound; the names of a walk's ends and of its edges
 --   IsWalkLine g x u w line      the line of the leftmost walk from u to w
 --   ShowsBound op g x u w line   the line of the walk from u up to a join, or from a meet up to u
@@ -19,7 +19,7 @@ use Rattle.st_report.specs.declared.stop.Refusal.TheVariants.{UnknownVertex}
 use Rattle.st_sides.specs.Sides.{SidesValue, primal}
 use Rattle.st_test.specs.Planar.{StValue}
 use Rattle.st_verdict.specs.Stages.{IsToldBy}
-use Rattle.st_verdict.specs.Verdict.{vertex_name, edge_name}
+use Rattle.st_verdict.specs.Verdict.{file_vertex_name, file_edge_name}
 use Rattle.st_words.specs.Words.{operation_word}
 use Rattle.st_words.specs.declared.words.Operation.{Operation}
 use Rattle.st_words.specs.declared.words.Operation.TheVariants.{Join, Meet}
@@ -32,9 +32,9 @@ IsBound Join x u v w = IsJoin x u v w
 IsBound Meet x u v w = IsMeet x u v w
 
 -- a walk leads from u up to a join w, or from a meet w up to u
-abbrev pub Leads : Operation → SidesValue → ℕ → ℕ → Type 0
-Leads Join x u w = Reaches (primal x) u w
-Leads Meet x u w = Reaches (primal x) w u
+abbrev pub ReachesBound : Operation → SidesValue → ℕ → ℕ → Type 0
+ReachesBound Join x u w = Reaches (primal x) u w
+ReachesBound Meet x u w = Reaches (primal x) w u
 
 -- which bound, and the names of two vertices and of their bound
 abbrev pub bound_line : Operation → ℤ → ℤ → ℤ → List ℕ
@@ -48,7 +48,7 @@ walk_line from to edges = codes "walk" ++ (spaced (from ∷ to ∷ []) ++ (codes
 pub record IsWalkLine (g : InputGraph) (x : SidesValue) (u w : ℕ) (line : List ℕ) : Type 0 where
   pub walk : List ℕ
   pub leftmost : Leftmost x w u walk
-  pub text : line ≡ walk_line (vertex_name g u) (vertex_name g w) (map (edge_name g) walk)
+  pub text : line ≡ walk_line (file_vertex_name g u) (file_vertex_name g w) (map (file_edge_name g) walk)
 
 -- the line of the leftmost walk between u and a bound w: up to a join, up from a meet
 abbrev pub ShowsBound : Operation → InputGraph → SidesValue → ℕ → ℕ → List ℕ → Type 0
@@ -63,7 +63,7 @@ pub record TellsBound (op : Operation) (g : InputGraph) (x : SidesValue) (u v : 
   pub shows_first : ShowsBound op g x u bound first
   pub second : List ℕ
   pub shows_second : ShowsBound op g x v bound second
-  pub text : out ≡ bound_line op (vertex_name g u) (vertex_name g v) (vertex_name g bound) ++ (first ++ second)
+  pub text : out ≡ bound_line op (file_vertex_name g u) (file_vertex_name g v) (file_vertex_name g bound) ++ (first ++ second)
 
 -- the lines about the bound of the vertices of two names
 pub record AreBoundLines (op : Operation) (from to : ℤ) (g : InputGraph) (st : StValue) (out : List ℕ) : Type 0 where

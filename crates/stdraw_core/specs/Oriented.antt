@@ -30,7 +30,7 @@ use Rattle.st_report.specs.declared.stop.Refusal.TheVariants.{NoOrientation, Not
 use Rattle.st_test.specs.declared.digraph_fault.Poles.{Poles}
 use Rattle.st_verdict.specs.File.{IsGraphWithin}
 use Rattle.st_verdict.specs.Stages.{Then, IsToldBy}
-use Rattle.st_verdict.specs.Verdict.{HasMap, outer_in, vertex_name, edge_name}
+use Rattle.st_verdict.specs.Verdict.{HasMap, outer_or_first, file_vertex_name, file_edge_name}
 use Rattle.stdraw_core.specs.Query.{IsNamed, IsFirstUnknown}
 
 -- the vertices of the two names; else the first name that no vertex has
@@ -52,11 +52,11 @@ pub record IsFirstLoop (f : Graph) (e : ℕ) : Type 0 where
 -- no edge leads from a vertex to itself; else the first that does
 abbrev pub IsLoopless : InputGraph → Result (Unit {0}) Refusal → Type 0
 IsLoopless g (Ok _) = HasNoLoop g.graph
-IsLoopless g (Err r) = IsToldBy (λ e. NoOrientation (Loop (edge_name g e))) (IsFirstLoop g.graph) r
+IsLoopless g (Err r) = IsToldBy (λ e. NoOrientation (Loop (file_edge_name g e))) (IsFirstLoop g.graph) r
 
 -- the end that names the outer face, before any edge is turned
 abbrev pub outer_at : InputGraph → Poles → Embedded → ℕ
-outer_at g p m = outer_in g m p.source.0
+outer_at g p m = outer_or_first g m p.source.0
 
 -- the file's graph with the ends that the edges have in the orientation, and with its outer end
 abbrev pub written_graph : InputGraph → Poles → Embedded → (ℕ → Bool) → Embedded → InputGraph
@@ -72,10 +72,10 @@ pub record IsOrientedFile (g : InputGraph) (p : Poles) (m : Embedded) (out : Lis
 
 -- what is told of a fault
 abbrev pub TellsOrient : InputGraph → OrientFault → Refusal → Type 0
-TellsOrient g (orient_fault.Apart v) r = r ≡ NoOrientation (Apart (vertex_name g v.0))
+TellsOrient g (orient_fault.Apart v) r = r ≡ NoOrientation (Apart (file_vertex_name g v.0))
 TellsOrient g (orient_fault.BadFaces v e f) r = r ≡ NotSt (BadFaces v e f)
 TellsOrient g (orient_fault.Outer a b) r = r ≡ NotSt (Outer a b)
-TellsOrient g (orient_fault.Cut c v) r = r ≡ NoOrientation (Cut (vertex_name g c.0) (vertex_name g v.0))
+TellsOrient g (orient_fault.Cut c v) r = r ≡ NoOrientation (Cut (file_vertex_name g c.0) (file_vertex_name g v.0))
 TellsOrient g orient_fault.NoMemory r = ⊥
 
 -- the same as a stage that finds nothing

@@ -16,7 +16,7 @@ use Rattle.st_sides.specs.Held.{HasSizes}
 use Rattle.st_input.specs.InputGraph.{InputGraph}
 use Rattle.st_input.specs.Paths.{paths_by, path_name_fault}
 use Rattle.st_input.specs.declared.fault.PathNameFault.TheVariants as unknown
-use Rattle.draw_align.specs.Faults.{IsFirstFault}
+use Rattle.draw_align.specs.Faults.{IsFirstPathFault}
 use Rattle.draw_align.specs.Listed.{AreSound}
 use Rattle.draw_align.specs.declared.path_fault.PathFault.{PathFault}
 use Rattle.draw_align.specs.declared.path_fault.PathFault.TheVariants as fault
@@ -27,7 +27,7 @@ use Rattle.st_report.specs.declared.stop.BadPath.TheVariants.{UnknownEdge, NotAP
 use Rattle.st_report.specs.declared.stop.Refusal.{Refusal}
 use Rattle.st_report.specs.declared.stop.Refusal.TheVariants.{Path}
 use Rattle.st_verdict.specs.Stages.{IsToldBy}
-use Rattle.st_verdict.specs.Verdict.{vertex_name, edge_name}
+use Rattle.st_verdict.specs.Verdict.{file_vertex_name, file_edge_name}
 
 -- the paths of the file: the edges of each, by number
 abbrev pub paths_in : InputGraph → List (List ℕ)
@@ -58,15 +58,15 @@ HasValidPaths form g st = Unit {0}
 -- what is told of a fault of the paths: the same with names for numbers
 abbrev pub TellsPath : InputGraph → PathFault → BadPath → Type 0
 TellsPath g (fault.NotAPath p) why = why ≡ NotAPath p
-TellsPath g (fault.SharedEdge p e) why = why ≡ SharedEdge p (edge_name g e.0)
-TellsPath g (fault.Crossing p q v) why = why ≡ Crossing p q (vertex_name g v.0)
+TellsPath g (fault.SharedEdge p e) why = why ≡ SharedEdge p (file_edge_name g e.0)
+TellsPath g (fault.Crossing p q v) why = why ≡ Crossing p q (file_vertex_name g v.0)
 TellsPath g fault.NoMemory why = ⊥
 
 -- A name that no edge has goes before all else: that of the first path with one, and in it the first. Where all are known, it is
 -- the first fault of the paths.
 pub data IsBadPath (g : InputGraph) (st : StValue) (why : BadPath) : Type 0 where
   unknown_edge : (p : ℕ) (name : ℤ) → path_name_fault g.edge_names g.paths ≡ Some (unknown.UnknownEdge p name) → why ≡ UnknownEdge p name → IsBadPath g st why
-  first_fault : HasKnownEdges g → (x : SidesValue) → AreSidesIn st x → (f : PathFault) → IsFirstFault x (paths_in g) f → TellsPath g f why → IsBadPath g st why
+  first_fault : HasKnownEdges g → (x : SidesValue) → AreSidesIn st x → (f : PathFault) → IsFirstPathFault x (paths_in g) f → TellsPath g f why → IsBadPath g st why
 
 -- the form that looks at paths refuses them where they aren't valid; no other form refuses
 abbrev pub RefusesDraw : DrawForm → InputGraph → StValue → Refusal → Type 0

@@ -1,15 +1,15 @@
 -- What a query answers about a planar st-graph.
 -- Letters: g graph of the file, st planar st-graph, points a point for each vertex, u and v vertices.
---   IsNamed g v name           vertex v has the name
---   names_of pairs             all names in their order
---   AreKnown g ns              each of the names is that of a vertex
---   IsFirstUnknown g ns name   the first of the names that no vertex has
---   ArePoints g st points      the points of the vertices in the dominance drawing of the file
---   DecideReaching g points    one vertex reaches another exactly where its point is at most the other's
---   line_of_pair ..            both names, the answer, both points
---   IsLine, AreLines           a line that answers a pair, and one line a pair
---   AreAnswers g st pairs out  those lines, with the points of the dominance drawing
---   AnswersPairs, AnswersQuery   those lines, or the first name that no vertex has
+--   IsNamed g v name            vertex v has the name
+--   names_of pairs              all names in their order
+--   AreKnown g ns               each of the names is that of a vertex
+--   IsFirstUnknown g ns name    the first of the names that no vertex has
+--   AreDrawnPoints g st points  the points of the vertices in the dominance drawing of the file
+--   DecideReaching g points     one vertex reaches another exactly where its point is at most the other's
+--   line_of_pair ..             both names, the answer, both points
+--   IsLine, AreQueryLines       a line that answers a pair, and one line a pair
+--   AreAnswers g st pairs out   those lines, with the points of the dominance drawing
+--   AnswersPairs, AnswersQuery  those lines, or the first name that no vertex has
 use Rattle.std.specs.Prelude.{◌≡◌, ℕ, ◌<◌, ◌⊎◌, ◌↔◌, ℤ, Bool, IsTrue, if◌then◌else◌, List, [], ◌∷◌, ◌++◌, slice_get, Some, codes, Result, Ok, Err}
 use Rattle.std.specs.Fmt.{signed_decimal}
 use Rattle.st_ids.specs.Walks.{Reaches}
@@ -21,7 +21,7 @@ use Rattle.st_shape.specs.declared.point.Point.{Point}
 use Rattle.st_shape.specs.Rules.{Drawing}
 use Rattle.st_sides.specs.Sides.{SidesValue}
 use Rattle.st_test.specs.Planar.{StValue}
-use Rattle.draw_dom.specs.Points.{AreAtMost, point_of}
+use Rattle.draw_dom.specs.Points.{IsPointAtMost, vertex_point}
 use Rattle.draw_dom.specs.Shown.{IsDominanceOf}
 use Rattle.st_verdict.specs.Stages.{IsToldBy}
 use Rattle.stdraw_core.specs.Drawing.{file_names}
@@ -32,8 +32,8 @@ abbrev pub IsNamed : InputGraph → ℕ → ℤ → Type 0
 IsNamed g v name = slice_get g.vertex_names v ≡ Some name
 
 -- some vertex has the name
-abbrev pub IsKnown : InputGraph → ℤ → Type 0
-IsKnown g name = (v : ℕ) × IsNamed g v name
+abbrev pub IsKnownName : InputGraph → ℤ → Type 0
+IsKnownName g name = (v : ℕ) × IsNamed g v name
 
 -- no vertex has the name
 abbrev pub IsUnknown : InputGraph → ℤ → Type 0
@@ -47,15 +47,15 @@ names_of (p ∷ pairs) = p.0 ∷ p.1 ∷ names_of pairs
 -- each of the names is that of a vertex
 abbrev pub AreKnown : InputGraph → List ℤ → Type 0
 AreKnown g [] = Unit {0}
-AreKnown g (n ∷ names) = IsKnown g n × AreKnown g names
+AreKnown g (n ∷ names) = IsKnownName g n × AreKnown g names
 
 -- the first of the names that no vertex has
 abbrev pub IsFirstUnknown : InputGraph → List ℤ → ℤ → Type 0
 IsFirstUnknown g [] name = ⊥
-IsFirstUnknown g (n ∷ names) name = (IsUnknown g n × (name ≡ n)) ⊎ (IsKnown g n × IsFirstUnknown g names name)
+IsFirstUnknown g (n ∷ names) name = (IsUnknown g n × (name ≡ n)) ⊎ (IsKnownName g n × IsFirstUnknown g names name)
 
 -- The compact points of the vertices in the reduced graph: those that the dominance picture of the file draws.
-pub record ArePoints (g : InputGraph) (st : StValue) (points : List Point) : Type 0 where
+pub record AreDrawnPoints (g : InputGraph) (st : StValue) (points : List Point) : Type 0 where
   pub sides : SidesValue
   pub are : AreSidesIn st sides
   pub picture : Drawing
@@ -63,7 +63,7 @@ pub record ArePoints (g : InputGraph) (st : StValue) (points : List Point) : Typ
 
 -- a walk leads from one vertex to another exactly where neither coordinate of its point is above that of the other's
 abbrev pub DecideReaching : Graph → List Point → Type 0
-DecideReaching g points = (u v : ℕ) → u < g.vertices → v < g.vertices → Reaches (arcs_of g) u v ↔ AreAtMost points u v
+DecideReaching g points = (u v : ℕ) → u < g.vertices → v < g.vertices → Reaches (arcs_of g) u v ↔ IsPointAtMost points u v
 
 -- the answer, and the end of a point
 abbrev pub answer_word : Bool → List ℕ
@@ -86,24 +86,24 @@ pub record IsLine (g : InputGraph) (points : List Point) (p : ℤ × ℤ) (line 
   pub to_named : IsNamed g to p.1
   pub answer : Bool
   pub reaches : IsTrue answer ↔ Reaches (arcs_of g.graph) from to
-  pub at_most : IsTrue answer ↔ AreAtMost points from to
-  pub text : line ≡ line_of_pair p.0 p.1 answer (point_of points from) (point_of points to)
+  pub at_most : IsTrue answer ↔ IsPointAtMost points from to
+  pub text : line ≡ line_of_pair p.0 p.1 answer (vertex_point points from) (vertex_point points to)
 
 -- one line a pair
-pub data AreLines (g : InputGraph) (points : List Point) : List (ℤ × ℤ) → List ℕ → Type 0 where
-  no_line : {out : List ℕ} → out ≡ [] → AreLines g points [] out
-  one_line : {p : ℤ × ℤ} {pairs : List (ℤ × ℤ)} {out : List ℕ} (line rest : List ℕ) → IsLine g points p line → AreLines g points pairs rest → out ≡ line ++ rest → AreLines g points (p ∷ pairs) out
+pub data AreQueryLines (g : InputGraph) (points : List Point) : List (ℤ × ℤ) → List ℕ → Type 0 where
+  no_line : {out : List ℕ} → out ≡ [] → AreQueryLines g points [] out
+  one_line : {p : ℤ × ℤ} {pairs : List (ℤ × ℤ)} {out : List ℕ} (line rest : List ℕ) → IsLine g points p line → AreQueryLines g points pairs rest → out ≡ line ++ rest → AreQueryLines g points (p ∷ pairs) out
 
 -- All names are those of vertices, and there is one line a pair, with the points of the dominance drawing.
 pub record AreAnswers (g : InputGraph) (st : StValue) (pairs : List (ℤ × ℤ)) (out : List ℕ) : Type 0 where
   pub known : AreKnown g (names_of pairs)
   pub points : List Point
-  pub are : ArePoints g st points
-  pub lines : AreLines g points pairs out
+  pub are : AreDrawnPoints g st points
+  pub lines : AreQueryLines g points pairs out
 
 -- what is answered to pairs with these points: one line a pair, or the first name that no vertex has
 abbrev pub AnswersPairs : List (ℤ × ℤ) → InputGraph → List Point → Result (List ℕ) Refusal → Type 0
-AnswersPairs pairs g points (Ok out) = AreKnown g (names_of pairs) × AreLines g points pairs out
+AnswersPairs pairs g points (Ok out) = AreKnown g (names_of pairs) × AreQueryLines g points pairs out
 AnswersPairs pairs g points (Err r) = IsToldBy (λ name. UnknownVertex name) (IsFirstUnknown g (names_of pairs)) r
 
 -- what a query answers: the same with the points of the dominance drawing

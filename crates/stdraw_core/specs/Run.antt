@@ -1,13 +1,13 @@
 -- How a run ends, for any source and sinks.
---   most_bytes             the greatest number of bytes of a file that a task reads
---   TakesAtMost            at most so many bytes were taken from the source
---   TakesFew               no more than the task's file may have, and one read
---   IsFailedRead           reads gave their bytes, and then one failed
---   Leaves, HasRead        what a refusal, and a task with an output, leave of the source
---   Finds                  what a file was found to be: a graph, or why it has none
---   IsReady, IsRefused     the answer to the bytes is an output, or a refusal, and what was read for it
---   Decides                what was found out before anything was written
---   EndsBy                 the five ways to end, with the status of each
+--   most_bytes              the greatest number of bytes of a file that a task reads
+--   TakesAtMost             at most so many bytes were taken from the source
+--   TakesFew                no more than the task's file may have, and one read
+--   IsFailedRead            reads gave their bytes, and then one failed
+--   Leaves, HasReadInput    what a refusal, and a task with an output, leave of the source
+--   Finds                   what a file was found to be: a graph, or why it has none
+--   IsReady, IsRefusedWith  the answer to the bytes is an output, or a refusal, and what was read for it
+--   Decides                 what was found out before anything was written
+--   EndsBy                  the five ways to end, with the status of each
 -- The bytes are those that the source had left, where it tells them.
 use Rattle.std.specs.Prelude.{◌≡◌, ℕ, ◌+◌, ◌<◌, ◌≤◌, List, length, IfSome, IsTrue, Result, Ok, Err}
 use Rattle.std.specs.declared.option.Option.{Option}
@@ -72,12 +72,12 @@ Leaves TooLongDrawing old new = TakesPastLimit MOST_DRAWING_BYTES old new
 Leaves _ old new = IsAtEnd new
 
 -- what a task with an output has read: a file to its end; for a generated graph nothing
-abbrev pub HasRead : Task → SourceState → SourceState → Type 0
-HasRead (File command) old new = IsAtEnd new.left
-HasRead Check old new = IsAtEnd new.left
-HasRead (Orient from to) old new = IsAtEnd new.left
-HasRead (Gen r) old new = new ≡ old
-HasRead (Bench r form) old new = new ≡ old
+abbrev pub HasReadInput : Task → SourceState → SourceState → Type 0
+HasReadInput (File command) old new = IsAtEnd new.left
+HasReadInput Check old new = IsAtEnd new.left
+HasReadInput (Orient from to) old new = IsAtEnd new.left
+HasReadInput (Gen r) old new = new ≡ old
+HasReadInput (Bench r form) old new = new ≡ old
 
 -- the bytes have the graph, and were read to their end
 pub record IsReadAs (old new : SourceState) (g : InputGraph) : Type 0 where
@@ -108,10 +108,10 @@ pub record IsReady (words : List (List ℕ)) (old new : SourceState) (text : Lis
   pub answer : IsAnswer words bytes (Ok text)
   pub task : Task
   pub asked : IsTask words task
-  pub read : HasRead task old new
+  pub read : HasReadInput task old new
 
 -- the answer to the bytes is a refusal
-pub record IsRefused (words : List (List ℕ)) (old new : SourceState) (refusal : Refusal) : Type 0 where
+pub record IsRefusedWith (words : List (List ℕ)) (old new : SourceState) (refusal : Refusal) : Type 0 where
   pub bytes : List ℕ
   pub told : IfSome old.left (λ left. left ≡ bytes)
   pub answer : IsAnswer words bytes (Err refusal)
@@ -128,7 +128,7 @@ pub record IsUnread (words : List (List ℕ)) (old new : SourceState) : Type 0 w
 -- what was found out before anything was written
 abbrev pub Decides : List (List ℕ) → SourceState → SourceState → Result (List ℕ) Stop → Type 0
 Decides words old new (Ok text) = IsReady words old new text
-Decides words old new (Err (Refused refusal)) = IsRefused words old new refusal
+Decides words old new (Err (Refused refusal)) = IsRefusedWith words old new refusal
 Decides words old new (Err ReadFault) = IsUnread words old new
 Decides words old new (Err WriteFault) = ⊥
 Decides words old new (Err NoMemory) = Unit {0}
@@ -150,7 +150,7 @@ pub record IsCutShort (words : List (List ℕ)) (src src' : SourceState) (out ou
 -- the refusal that the status and the line name
 pub record IsTold (words : List (List ℕ)) (src src' : SourceState) (diag diag' : SinkState) (s : Status) : Type 0 where
   pub refusal : Refusal
-  pub refused : IsRefused words src src' refusal
+  pub refused : IsRefusedWith words src src' refusal
   pub status : s ≡ status_of refusal
   pub line : Tells diag diag' (line_of refusal)
 

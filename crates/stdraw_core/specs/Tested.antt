@@ -7,13 +7,13 @@ use Rattle.st_map.specs.Embedded.{edges, faces}
 use Rattle.st_report.specs.declared.stop.Refusal.{Refusal}
 use Rattle.st_report.specs.Lines.{numbered}
 use Rattle.st_test.specs.Planar.{StValue}
-use Rattle.st_verdict.specs.Verdict.{vertex_name}
+use Rattle.st_verdict.specs.Verdict.{file_vertex_name}
 
 -- the line of a planar st-graph: how many vertices, edges and faces, and the names of its poles
 abbrev pub test_line : InputGraph → StValue → List ℕ
 test_line g st = (numbered (codes "planar st-graph: ") (pos st.map.graph.vertices) (codes " vertices, ")
     ++ (numbered [] (pos (edges st.map.graph)) (codes " edges, ") ++ numbered [] (pos (faces st.map.graph)) (codes " faces, source ")))
-    ++ (numbered [] (vertex_name g st.source) (codes ", sink ") ++ numbered [] (vertex_name g st.sink) (codes "\n"))
+    ++ (numbered [] (file_vertex_name g st.source) (codes ", sink ") ++ numbered [] (file_vertex_name g st.sink) (codes "\n"))
 
 -- what a test answers: the line of the planar st-graph
 abbrev pub AnswersTest : InputGraph → StValue → Result (List ℕ) Refusal → Type 0

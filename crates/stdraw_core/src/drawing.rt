@@ -3,12 +3,12 @@ ghost use Rattle.std.specs.Prelude.{◌≡◌, ◌≢◌, ◌<◌, ◌≤◌, �
 ghost use Rattle.draw_poly.specs.Numbers.{IsLongOnParallels};
 ghost use Rattle.draw_poly.specs.Placing.{AreEnds, IsPlacement};
 ghost use Rattle.st_number.specs.Parallel.{AreParallel};
-ghost use Rattle.st_number.specs.Weighing.{IsLawful};
+ghost use Rattle.st_number.specs.Weighing.{AreLawfulWeights};
 ghost use Rattle.st_picture.specs.Naming.{AreNames};
 ghost use Rattle.st_sides.specs.Sides.{edge_count};
 ghost use Rattle.st_sides.specs.SidesOf.{IsSidesOf};
 ghost use Rattle.st_input.specs.InputGraph.{IsConsistent};
-ghost use Rattle.stdraw_core.specs.Drawing.{AnswersPlaces, AnswersRows, Depicts, IsPictureOf, IsReducedPicture, IsPlacedPolyline, place_of};
+ghost use Rattle.stdraw_core.specs.Drawing.{AnswersPlaces, AnswersRows, Depicts, IsPictureOf, IsReducedPicture, IsPlacedPolyline, spot_place};
 ghost use Rattle.stdraw_core.specs.Paths.{AreSidesIn};
 ghost use Rattle.st_verdict.specs.Stops.{Gives, StopsAt};
 ghost use Rattle.st_verdict.specs.Verdict.{IsFound};
@@ -46,7 +46,7 @@ fn column_of(spot: Spot, lo: i64, hi: i64) -> i64
     requires { AreEnds lo hi }
     ensures from { lo ≤ℤ result }
     ensures to { result ≤ℤ hi }
-    ensures value { (l h : ℕ) → lo ≡ pos l → hi ≡ pos h → l ≤ h → result ≡ pos (place_of spot l h) }
+    ensures value { (l h : ℕ) → lo ≡ pos l → hi ≡ pos h → l ≤ h → result ≡ pos (spot_place spot l h) }
 {
     match spot {
         Spot::Left => lo,
@@ -68,7 +68,7 @@ fn placed_polyline<F: Fn(EdgeId) -> u32, G: Fn(i64, i64) -> i64>(
     requires sides { IsSidesOf graph.now.map.graph graph.now.source graph.now.sink graph.now.outer sides.now }
     requires names { AreNames sides.now names.now }
     requires weights { rows.now.edges ≡ edge_count sides.now }
-    requires lawful { IsLawful F.pre F.post rows.now }
+    requires lawful { AreLawfulWeights F.pre F.post rows.now }
     requires most { rows.now.most ≡ 2 }
     requires long { IsLongOnParallels (F.post rows.now.closure) graph.now.map.graph }
     requires rows { AnswersRows (F.post rows.now.closure) graph.now.map.graph }
@@ -156,7 +156,7 @@ fn picture_of<F: Fn(EdgeId) -> u32>(
     requires sides { AreSidesIn graph sides.now }
     requires names { AreNames sides.now names.now }
     requires weights { ones.now.edges ≡ edge_count sides.now }
-    requires lawful { IsLawful F.pre F.post ones.now }
+    requires lawful { AreLawfulWeights F.pre F.post ones.now }
     requires ones { ones.now.most ≡ 1 }
     requires high { sides.now.vertices ≤ MOST_VERTICES }
     requires wide { edge_count sides.now ≤ MOST_EDGES }

@@ -7,9 +7,9 @@ ghost use Rattle.st_order.specs.Labels.{AreLabels};
 ghost use Rattle.st_report.specs.Lines.{numbered, spaced};
 ghost use Rattle.st_sides.specs.Sides.{SidesValue, edge_count, primal};
 ghost use Rattle.st_verdict.specs.Stops.{Gives};
-ghost use Rattle.st_verdict.specs.Verdict.{IsFound, edge_name};
+ghost use Rattle.st_verdict.specs.Verdict.{IsFound, file_edge_name};
 ghost use Rattle.st_words.specs.Words.{operation_word};
-ghost use Rattle.stdraw_core.specs.Lattice.{AnswersLattice, IsBound, IsWalkLine, Leads, ShowsBound, TellsBound, bound_line};
+ghost use Rattle.stdraw_core.specs.Lattice.{AnswersLattice, IsBound, IsWalkLine, ReachesBound, ShowsBound, TellsBound, bound_line};
 ghost use Rattle.stdraw_core.specs.Paths.{AreSidesIn};
 
 use crate::number::append_number;
@@ -70,7 +70,7 @@ fn append_bound(
 // Appends the names of the edges, each behind a space.
 fn append_edges(text: &mut Text, spec: &GraphSpec, edges: &[EdgeId]) -> Result<(), NoMemory>
     requires { (i : ℕ) → i < length edges.now → slice_index (numbers edges.now) i < length spec.now.graph.ends }
-    ensures { OnOk result (text.new ≡ text.old ++ spaced (map (edge_name spec.now) (numbers edges.now))) }
+    ensures { OnOk result (text.new ≡ text.old ++ spaced (map (file_edge_name spec.now) (numbers edges.now))) }
 {
     for i in 0..edges.len() {
         append_name(text, name_of_edge(spec, edges[i]))?;
@@ -121,7 +121,7 @@ fn append_shown(
     requires edges { edge_count sides.now ≡ length spec.now.graph.ends }
     requires u_there { u.0 < sides.now.vertices }
     requires bound_there { bound.0 < sides.now.vertices }
-    requires leads { Leads op sides.now u.0 bound.0 }
+    requires leads { ReachesBound op sides.now u.0 bound.0 }
     ensures { OnOk result ((line : List ℕ) × ShowsBound op spec.now sides.now u.0 bound.0 line × (text.new ≡ text.old ++ line)) }
 {
     match op {
@@ -137,8 +137,8 @@ fn bound_of(sides: &Sides, labels: &Labels, op: Operation, u: VertexId, v: Verte
     requires v_there { v.0 < sides.now.vertices }
     ensures is { IsBound op sides.now u.0 v.0 result.0 }
     ensures there { result.0 < sides.now.vertices }
-    ensures first { Leads op sides.now u.0 result.0 }
-    ensures second { Leads op sides.now v.0 result.0 }
+    ensures first { ReachesBound op sides.now u.0 result.0 }
+    ensures second { ReachesBound op sides.now v.0 result.0 }
 {
     match op {
         Operation::Join => join(sides, labels, u, v),

@@ -5,7 +5,7 @@ ghost use Rattle.draw_align.specs.Listed.{AreSound};
 ghost use Rattle.st_input.specs.InputGraph.{IsConsistent};
 ghost use Rattle.st_input.specs.Paths.{path_name_fault};
 ghost use Rattle.st_input.specs.declared.fault.PathNameFault.TheVariants.{NoMemory as no_memory};
-ghost use Rattle.st_number.specs.Weighing.{IsLawful};
+ghost use Rattle.st_number.specs.Weighing.{AreLawfulWeights};
 ghost use Rattle.st_picture.specs.Naming.{AreNames};
 ghost use Rattle.st_sides.specs.Sides.{edge_count};
 ghost use Rattle.st_test.specs.Planar.{StValue};
@@ -95,7 +95,7 @@ pub fn aligned_picture<F: Fn(EdgeId) -> u32>(
     requires sides { AreSidesIn graph.now sides.now }
     requires names { AreNames sides.now names.now }
     requires weights { ones.now.edges ≡ edge_count sides.now }
-    requires lawful { IsLawful F.pre F.post ones.now }
+    requires lawful { AreLawfulWeights F.pre F.post ones.now }
     requires ones { ones.now.most ≡ 1 }
     requires high { sides.now.vertices ≤ MOST_VERTICES }
     requires wide { edge_count sides.now ≤ MOST_EDGES }

@@ -1,7 +1,7 @@
 //! The answer to a query: for each pair of names whether the first vertex reaches the second, and where both stand in the
 //! dominance drawing.
 ghost use Rattle.std.specs.Prelude.{◌≡◌, ◌++◌, ◌≤◌, length, IfOk, OnOk};
-ghost use Rattle.stdraw_core.specs.Query.{ArePoints, DecideReaching, answer_word, spelled, line_of_pair};
+ghost use Rattle.stdraw_core.specs.Query.{AreDrawnPoints, DecideReaching, answer_word, spelled, line_of_pair};
 ghost use Rattle.st_verdict.specs.Stops.{Gives};
 ghost use Rattle.st_verdict.specs.Verdict.{IsFound};
 ghost use Rattle.st_ids.specs.declared.limits.TheConstants.{MOST_VERTICES, MOST_EDGES};
@@ -95,7 +95,7 @@ fn points_in(
     requires found { IsFound spec.now graph }
     requires high { spec.now.graph.vertices ≤ MOST_VERTICES }
     requires wide { length spec.now.graph.ends ≤ MOST_EDGES }
-    ensures points { IfOk result (λ points. ArePoints spec.now graph points) }
+    ensures points { IfOk result (λ points. AreDrawnPoints spec.now graph points) }
     ensures reaching { IfOk result (λ points. DecideReaching spec.now.graph points) }
     ensures size { IfOk result (λ points. length points ≡ spec.now.graph.vertices) }
 {

@@ -7,7 +7,7 @@ ghost use Rattle.st_input.specs.Written.{IsWritable};
 ghost use Rattle.st_words.specs.Words.{IsTask, IsFileless};
 ghost use Rattle.st_verdict.specs.Stops.{Gives};
 ghost use Rattle.st_verdict.specs.Verdict.{IsFound};
-ghost use Rattle.stdraw_core.specs.Answer.{Answers, AnswersGraph};
+ghost use Rattle.stdraw_core.specs.Answer.{AnswersCommand, AnswersGraph};
 ghost use Rattle.stdraw_core.specs.Complete.{Complete};
 ghost use Rattle.stdraw_core.specs.Exact.{Exact};
 ghost use Rattle.stdraw_core.specs.Headline.{CheckHeadline, Headline, LatticeHeadline, OrientHeadline, QueryHeadline};
@@ -58,7 +58,7 @@ fn answer_command(
     requires found { IsFound spec.now graph }
     requires high { spec.now.graph.vertices ≤ MOST_VERTICES }
     requires wide { length spec.now.graph.ends ≤ MOST_EDGES }
-    ensures { Gives (Answers command.now spec.now graph) result }
+    ensures { Gives (AnswersCommand command.now spec.now graph) result }
 {
     match command {
         Command::Query(pairs) => as_output(answer_query(alloc, spec, graph, pairs.items())),

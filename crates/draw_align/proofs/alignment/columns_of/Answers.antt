@@ -1,6 +1,6 @@
 use Rattle.std.proofs.Common.{◌+◌, sym, ap, subst, arith, get_or}
 use Rattle.st_number.specs.Passing.{IsEdgeOrder, IsPassTable}
-use Rattle.st_number.proofs.PassLemmas.{edge_order}
+use Rattle.st_number.proofs.Public.{edge_order}
 use Rattle.draw_align.proofs.BuiltLemmas.{has_homes, columns_acyclic, node_columns, node_count}
 use Rattle.draw_align.proofs.alignment.columns_of.Goals as goal
 

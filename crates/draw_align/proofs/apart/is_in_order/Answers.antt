@@ -1,6 +1,6 @@
 use Rattle.std.proofs.Common.{◌≡◌, ◌+◌, ◌≤◌, length, sym, ap, ◌∙◌, subst, arith, get_or}
 use Rattle.st_sides.specs.Sides.{ins}
-use Rattle.st_number.proofs.PassLemmas.{number_at, numbers_size}
+use Rattle.st_number.proofs.Public.{number_at, numbers_size}
 use Rattle.draw_align.specs.Crossing.{IsSorted}
 use Rattle.draw_align.specs.Faults.{AreDisjoint}
 use Rattle.draw_align.proofs.ApartLemmas.{sorted_start, sorted_more, sorted_end, not_sorted}

@@ -1,6 +1,6 @@
 use Rattle.std.proofs.Common.{◌≡◌, ◌+◌, length, sym, ap, subst, ◌∙◌, arith, get_or}
 use Rattle.st_sides.specs.Sides.{ins, edge_head}
-use Rattle.st_number.proofs.PassLemmas.{number_at, numbers_size}
+use Rattle.st_number.proofs.Public.{number_at, numbers_size}
 use Rattle.draw_align.specs.Crossing.{IsLeast, EarlierAt}
 use Rattle.draw_align.proofs.CrossLemmas.{at_more}
 use Rattle.draw_align.proofs.crossing.least_crossing.Goals as goal

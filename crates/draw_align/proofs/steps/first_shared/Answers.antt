@@ -1,6 +1,6 @@
 use Rattle.std.proofs.Common.{ℕ, ◌≡◌, ◌<◌, inl, inr, length, sym, ap, subst, arith, get_or, ◌∙◌}
 use Rattle.std.proofs.lemmas.Bool.{cases_eq}
-use Rattle.st_sides.proofs.PlaceLists.{at_in}
+use Rattle.st_sides.proofs.Public.{at_in}
 use Rattle.draw_align.specs.Listed.{path_at, IsShared}
 use Rattle.draw_align.proofs.StepLemmas.{edge_is, size_is, some_case, none_case, told_shared, shared_told}
 use Rattle.draw_align.proofs.steps.first_shared.Goals as goal

@@ -1,8 +1,8 @@
 use Rattle.std.proofs.Common.{◌≡◌, ◌<◌, ◌^◌, pos, ap, ap₂, subst, length, get_or, vec_len, ◌∙◌, arith, rules}
 use Rattle.std.proofs.lemmas.List.{get_or_read_under}
 use Rattle.st_shape.specs.declared.point.Point.{Point}
-use Rattle.st_picture.specs.Items.{at}
-use Rattle.draw_dom.specs.Points.{ArePlaces}
+use Rattle.st_picture.specs.Items.{grid_point}
+use Rattle.draw_dom.specs.Points.{AreCompactPlaces}
 use Rattle.draw_dom.proofs.AlongLemmas.{compact_points, more_points, read_back}
 use Rattle.draw_dom.proofs.compaction.points.Goals as goal
 
@@ -19,7 +19,7 @@ loop-v-preserved c =
       len = search rules;
       items = λ u h.
           rw c.in_ok-push.ensures.items
-          (more_points (λ w. at (get_or c.in_ok-columns.columns.items w 0) (get_or c.in_ok-rows.rows.items w 0)) c.loop-v.points.items v _ (search rules)
+          (more_points (λ w. grid_point (get_or c.in_ok-columns.columns.items w 0) (get_or c.in_ok-rows.rows.items w 0)) c.loop-v.points.items v _ (search rules)
           (ap₂ (λ a b. let p : Point = record { x = a; y = b } in p) (read_back c.from.result _ c.from.ensures column_small ∙ ap pos column) (read_back c.from-in-loop-v.result _ c.from-in-loop-v.ensures row_small ∙ ap pos row)) c.loop-v.invariant.items u h);
     }
 
@@ -43,6 +43,6 @@ returns c =
     let P = c.in_ok-columns.columns.items in
     let Q = c.in_ok-rows.rows.items in
     compact_points c.args.xs.now c.args.ys.now c.requires.numbers P Q c.loop-v.points.items
-    (subst (λ z. ArePlaces z c.args.ys.now P) c.items.ensures (subst (λ z. ArePlaces c.items.result.now z P) c.items-2.ensures c.in_ok-columns.ensures))
-    (subst (λ z. ArePlaces z c.args.xs.now Q) c.items-3.ensures (subst (λ z. ArePlaces c.items-3.result.now z Q) c.items-4.ensures c.in_ok-rows.ensures))
+    (subst (λ z. AreCompactPlaces z c.args.ys.now P) c.items.ensures (subst (λ z. AreCompactPlaces c.items.result.now z P) c.items-2.ensures c.in_ok-columns.ensures))
+    (subst (λ z. AreCompactPlaces z c.args.xs.now Q) c.items-3.ensures (subst (λ z. AreCompactPlaces c.items-3.result.now z Q) c.items-4.ensures c.in_ok-rows.ensures))
     (search rules) (search rules)

@@ -2,7 +2,7 @@ use Rattle.std.proofs.Common.{◌≡◌, ◌∙◌, refl, arith}
 use Rattle.st_reduce.specs.Marks.{dummy_numbers}
 use Rattle.st_reduce.specs.Reduced.{dummy_at}
 use Rattle.draw_dom.specs.Pictures.{points_and_lines}
-use Rattle.draw_dom.specs.Points.{point_of}
+use Rattle.draw_dom.specs.Points.{vertex_point}
 use Rattle.draw_dom.proofs.LaidLemmas.{room, laid_at, dominance_of, reaching_by}
 use Rattle.draw_dom.proofs.drawing.dominance_points.Goals as goal
 
@@ -16,7 +16,7 @@ returns-clause-points c = λ N.
     let x = c.args.sides.now in
     let n : c.vertices.result ≡ x.vertices = c.vertices.ensures.value in
     let L = laid_at r.graph.map.graph r.graph.source r.graph.sink r.graph.outer a.source a.sink a.outer c.in_ok-points.points c.in_ok-reduced.ensures.poles c.in_ok-points.ensures in
-    let d = points_and_lines x N (dummy_at (dummy_numbers r.dummy)) (point_of c.in_ok-points.points) in (
+    let d = points_and_lines x N (dummy_at (dummy_numbers r.dummy)) (vertex_point c.in_ok-points.points) in (
       d,
       dominance_of a.map.graph a.source a.sink a.outer c.planar_st.ensures x c.requires.sides c.local.ensures r.dummy r.graph.map.graph c.in_ok-reduced.ensures.reduced c.in_ok-reduced.ensures.law c.in_ok-points.points L
           N d refl c.in_ok-points-2.points (c.in_ok-points-2.ensures.size ∙ n) (λ v l. c.in_ok-points-2.ensures.each v (omega arith)),

@@ -3,11 +3,11 @@ use Rattle.std.proofs.lemmas.Result.{IfOk-weaker}
 use Rattle.st_shape.specs.declared.picture.Form.TheVariants.{Dominance}
 use Rattle.st_shape.specs.declared.point.Point.{Point}
 use Rattle.st_shape.specs.Rules.{FitsFrame, IsFrame}
-use Rattle.st_picture.specs.Items.{drawing, line, place_of}
+use Rattle.st_picture.specs.Items.{drawing, line, item_place}
 use Rattle.st_reduce.specs.Marks.{dummy_numbers}
 use Rattle.st_reduce.specs.Reduced.{dummy_at}
-use Rattle.draw_dom.specs.Pictures.{dot, dummied, points_and_lines}
-use Rattle.draw_dom.specs.Points.{point_of}
+use Rattle.draw_dom.specs.Pictures.{point_dot, dummied, points_and_lines}
+use Rattle.draw_dom.specs.Points.{vertex_point}
 use Rattle.draw_dom.proofs.BuildLemmas.{dot_in, line_in}
 use Rattle.draw_dom.proofs.items.points_and_lines.Goals as goal
 
@@ -17,7 +17,7 @@ compose-requires-clause-frame c =
     let N = c.args.names.now in
     let ds = c.args.dummies.now in
     let ps = c.args.points.now in
-    let p = point_of ps in
+    let p = vertex_point ps in
     let d = dummy_at (dummy_numbers ds) in
     let q : c.place-frame.result ≡ p S.sink = c.place-frame.ensures ∙ ap p (c.high.ensures.value ∙ c.local.ensures.high_s) in
     subst IsFrame (sym q) c.requires.dots.grid
@@ -28,16 +28,16 @@ compose-requires-clause-items c =
     let N = c.args.names.now in
     let ds = c.args.dummies.now in
     let ps = c.args.points.now in
-    let p = point_of ps in
+    let p = vertex_point ps in
     let d = dummy_at (dummy_numbers ds) in
     let q : c.place-frame.result ≡ p S.sink = c.place-frame.ensures ∙ ap p (c.high.ensures.value ∙ c.local.ensures.high_s) in (
-      dot N p,
+      point_dot N p,
       dummied S d p,
       record {
         figures = record {
           callable = λ v l. (let a : S.vertices ≤ length ps = c.requires.dots.vertices in let b : length N.vertex ≡ S.vertices = c.requires.names.vertices in search rules);
           answers = λ v z l h. search rules;
-          fits = λ v l. subst (λ (z : Point). FitsFrame z (dot N p v)) (sym q) (dot_in S c.local.ensures N ds ps c.requires.dots v l);
+          fits = λ v l. subst (λ (z : Point). FitsFrame z (point_dot N p v)) (sym q) (dot_in S c.local.ensures N ds ps c.requires.dots v l);
         };
         kind = λ v l. tt;
         lines = record {
@@ -54,16 +54,16 @@ returns c =
     let N = c.args.names.now in
     let ds = c.args.dummies.now in
     let ps = c.args.points.now in
-    let p = point_of ps in
+    let p = vertex_point ps in
     let d = dummy_at (dummy_numbers ds) in
     let q : c.place-frame.result ≡ p S.sink = c.place-frame.ensures ∙ ap p (c.high.ensures.value ∙ c.local.ensures.high_s) in
-    IfOk-weaker c.compose.result (λ e. e ≡ drawing S N Dominance c.place-frame.result (dot N p) (dummied S d p) (λ v. place_of (dot N p v))) (λ e. e ≡ points_and_lines S N d p)
-    (λ e r. r ∙ ap (λ z. drawing S N Dominance z (dot N p) (dummied S d p) p) q)
-    (c.compose.ensures (dot N p) (dummied S d p) (record {
+    IfOk-weaker c.compose.result (λ e. e ≡ drawing S N Dominance c.place-frame.result (point_dot N p) (dummied S d p) (λ v. item_place (point_dot N p v))) (λ e. e ≡ points_and_lines S N d p)
+    (λ e r. r ∙ ap (λ z. drawing S N Dominance z (point_dot N p) (dummied S d p) p) q)
+    (c.compose.ensures (point_dot N p) (dummied S d p) (record {
       figures = record {
         callable = λ v l. (let a : S.vertices ≤ length ps = c.requires.dots.vertices in let b : length N.vertex ≡ S.vertices = c.requires.names.vertices in search rules);
         answers = λ v z l h. search rules;
-        fits = λ v l. subst (λ (z : Point). FitsFrame z (dot N p v)) (sym q) (dot_in S c.local.ensures N ds ps c.requires.dots v l);
+        fits = λ v l. subst (λ (z : Point). FitsFrame z (point_dot N p v)) (sym q) (dot_in S c.local.ensures N ds ps c.requires.dots v l);
       };
       kind = λ v l. tt;
       lines = record {

@@ -4,7 +4,7 @@ use Rattle.st_shape.specs.declared.picture.Form.TheVariants.{Polyline}
 use Rattle.st_shape.specs.declared.point.Point.{Point}
 use Rattle.st_shape.specs.Rules.{FitsFrame}
 use Rattle.st_picture.specs.Bars.{number_at}
-use Rattle.st_picture.specs.Items.{drawing, line, place_of}
+use Rattle.st_picture.specs.Items.{drawing, line, item_place}
 use Rattle.draw_poly.specs.Polyline.{bent, corner_of, dot, dot_place, polylines}
 use Rattle.draw_poly.proofs.BendLemmas.{dot_inside, line_fits}
 use Rattle.draw_poly.proofs.items.dots_and_lines.Goals as goal
@@ -44,7 +44,7 @@ returns c =
     let p = number_at c.args.grid.now.places in
     let T = c.requires.tables.tracks in
     let q : c.corner-frame.result ≡ corner_of S y x = c.corner-frame.ensures in
-    IfOk-weaker c.compose.result (λ d. d ≡ drawing S N Polyline c.corner-frame.result (dot N p y) (bent S y x p) (λ v. place_of (dot N p y v))) (λ d. d ≡ polylines S N y x p)
+    IfOk-weaker c.compose.result (λ d. d ≡ drawing S N Polyline c.corner-frame.result (dot N p y) (bent S y x p) (λ v. item_place (dot N p y v))) (λ d. d ≡ polylines S N y x p)
     (λ d r. r ∙ ap (λ z. drawing S N Polyline z (dot N p y) (bent S y x p) (dot_place p y)) q)
     (c.compose.ensures (dot N p y) (bent S y x p) (record {
       figures = record {

@@ -2,11 +2,10 @@ use Rattle.std.proofs.Common.{◌≡◌, ◌+◌, ◌-◌, length, [], arith, ap
 use Rattle.std.proofs.lemmas.Result.{IfOk-weaker}
 use Rattle.st_sides.specs.Sides.{edge_count, high}
 use Rattle.st_picture.specs.Bars.{number_at}
-use Rattle.st_picture.specs.Items.{at}
+use Rattle.st_picture.specs.Items.{grid_point}
 use Rattle.draw_vis.specs.Tables.{frame_of}
 use Rattle.draw_vis.specs.Tessellation.{full_bar, box, post, boxes}
-use Rattle.st_picture.proofs.NameLemmas.{has_labels}
-use Rattle.st_picture.proofs.PushLemmas.{each_count}
+use Rattle.st_picture.proofs.Public.{has_labels, each_count}
 use Rattle.draw_vis.proofs.BuildLemmas.{counts, tiles, whole, figures, finished}
 use Rattle.draw_vis.proofs.tiles.boxes.Goals as goal
 
@@ -43,7 +42,7 @@ push_labels-requires-clause-figures c =
     let k = number_at c.args.grid.now.columns in
     let l : c.faces.result - 1 ≡ g.t_star = omega (arith, c.faces.ensures.value) in
     let top : c.high.result.0 ≡ g.sink = c.high.ensures.value ∙ ap (high g) l ∙ c.local.ensures.high_t in
-    let f : c.point-corner.result ≡ frame_of g y k = c.point-corner.ensures ∙ ap (λ z. at (k z) (y c.high.result.0)) l ∙ ap (λ z. at (k g.t_star) (y z)) top in
+    let f : c.point-corner.result ≡ frame_of g y k = c.point-corner.ensures ∙ ap (λ z. grid_point (k z) (y c.high.result.0)) l ∙ ap (λ z. grid_point (k g.t_star) (y z)) top in
     figures g c.args.names.now c.requires.names y k c.push_posts.new.picture
     (whole g c.args.names.now c.requires.names y k c.new-picture.result c.push_bars.new.picture c.push_boxes.new.picture c.push_posts.new.picture
     (c.new-picture.ensures ∙ ap (λ z. tiles z []) f) c.in_ok-push_bars.ensures c.in_ok-push_boxes.ensures c.in_ok-push_posts.ensures)
@@ -66,7 +65,7 @@ returns c =
     let k = number_at c.args.grid.now.columns in
     let l : c.faces.result - 1 ≡ g.t_star = omega (arith, c.faces.ensures.value) in
     let top : c.high.result.0 ≡ g.sink = c.high.ensures.value ∙ ap (high g) l ∙ c.local.ensures.high_t in
-    let f : c.point-corner.result ≡ frame_of g y k = c.point-corner.ensures ∙ ap (λ z. at (k z) (y c.high.result.0)) l ∙ ap (λ z. at (k g.t_star) (y z)) top in
+    let f : c.point-corner.result ≡ frame_of g y k = c.point-corner.ensures ∙ ap (λ z. grid_point (k z) (y c.high.result.0)) l ∙ ap (λ z. grid_point (k g.t_star) (y z)) top in
     let w = whole g c.args.names.now c.requires.names y k c.new-picture.result c.push_bars.new.picture c.push_boxes.new.picture c.push_posts.new.picture
     (c.new-picture.ensures ∙ ap (λ z. tiles z []) f) c.in_ok-push_bars.ensures c.in_ok-push_boxes.ensures c.in_ok-push_posts.ensures in
     IfOk-weaker c.push_labels.result _ (λ d. d ≡ boxes g c.args.names.now y k) (finished g c.args.names.now c.requires.names y k c.push_posts.new.picture w) c.push_labels.ensures

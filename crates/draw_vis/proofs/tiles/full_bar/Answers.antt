@@ -2,7 +2,7 @@ use Rattle.std.proofs.Common.{rules, w64, sym, ap, ◌∙◌, pos}
 use Rattle.std.specs.Prelude.{FitsSigned}
 use Rattle.std.proofs.lemmas.Int.{to_z-of_z}
 use Rattle.st_picture.specs.Bars.{number_at}
-use Rattle.st_picture.proofs.LabelLemmas.{name_is}
+use Rattle.st_picture.proofs.Public.{name_is}
 use Rattle.draw_vis.proofs.ItemLemmas.{bar_of}
 use Rattle.draw_vis.proofs.tiles.full_bar.Goals as goal
 

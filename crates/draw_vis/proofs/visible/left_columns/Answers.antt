@@ -1,7 +1,7 @@
 use Rattle.std.proofs.Common.{◌≡◌, arith, subst}
 use Rattle.st_sides.specs.Sides.{edge_count, face_left}
 use Rattle.st_picture.specs.Bars.{number_at}
-use Rattle.st_picture.proofs.TableLemmas.{Has}
+use Rattle.st_picture.proofs.Public.{Has}
 use Rattle.draw_vis.proofs.LaidLemmas.{left_columns}
 use Rattle.draw_vis.proofs.visible.left_columns.Goals as goal
 

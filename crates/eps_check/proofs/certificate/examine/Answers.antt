@@ -1,4 +1,4 @@
-use Rattle.st_shape.proofs.SearchLemmas.{picture_on_grid}
+use Rattle.st_shape.proofs.Public.{picture_on_grid}
 use Rattle.eps_check.proofs.VerdictLemmas.{one_verdict}
 use Rattle.eps_check.proofs.certificate.examine.Goals as goal
 

@@ -1,6 +1,6 @@
 use Rattle.std.proofs.Common.{IsTrue, ◌≡◌, inl, inr, arith}
 use Rattle.std.proofs.lemmas.Bool.{cases_lt}
-use Rattle.st_shape.proofs.SearchLemmas.{FaultyAlone-read}
+use Rattle.st_shape.proofs.Public.{FaultyAlone-read}
 use Rattle.eps_check.proofs.first.first_alone.Goals as goal
 
 pub loop-i-preserved : goal.loop-i-preserved

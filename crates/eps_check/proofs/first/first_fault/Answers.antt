@@ -1,6 +1,5 @@
 use Rattle.std.proofs.Common.{ap, Some}
-use Rattle.st_shape.proofs.LeastLemmas.{IsFault-clean, IsFault-unique}
-use Rattle.st_shape.proofs.SearchLemmas.{All-ordinary}
+use Rattle.st_shape.proofs.Public.{IsFault-clean, IsFault-unique, All-ordinary}
 use Rattle.eps_check.proofs.OverlapLemmas.{least_of, none_of}
 use Rattle.eps_check.proofs.first.first_fault.Goals as goal
 

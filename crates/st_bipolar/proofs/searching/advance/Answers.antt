@@ -2,7 +2,7 @@ use Rattle.std.proofs.Common.{◌<◌, sym, ap, ◌∙◌, subst}
 use Rattle.st_map.specs.Embedded.{at, darts, edges}
 use Rattle.st_ids.specs.Ends.{twin}
 use Rattle.std.specs.Prelude.{slice_index, slice_set, ◌-◌}
-use Rattle.st_map.proofs.EndLemmas.{twin-below}
+use Rattle.st_map.proofs.Public.{twin-below}
 use Rattle.st_bipolar.specs.SearchTables.{AreCursors}
 use Rattle.st_bipolar.proofs.TableLemmas.{cursor_end, cursor_below, cursors_more}
 use Rattle.st_bipolar.proofs.searching.advance.Goals as goal

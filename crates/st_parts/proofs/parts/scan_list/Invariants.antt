@@ -4,7 +4,7 @@ use Rattle.gml_core.specs.Trees.{listed}
 use Rattle.gml_core.specs.Views.{view, entry_view}
 use Rattle.st_parts.specs.Kinds.{earlier, earliest, part_wrong}
 use Rattle.st_parts.specs.Parts.{node_in, label_in, edge_in, path_in}
-use Rattle.st_parts.specs.Used.{HasSoundList, datum_of, each, first}
+use Rattle.st_parts.specs.Used.{HasSoundList, datum_of, each, first_with}
 use Rattle.st_parts.proofs.parts.scan_list.Given as goal
 
 abbrev pub invariant-loop-i : goal.invariant-loop-i
@@ -18,6 +18,6 @@ invariant-loop-i l = record {
   few_edges : length l.lists.edges ≤ l.i;
   few_paths : length l.lists.paths ≤ l.i;
   wrong : earlier l.lists.wrong (earliest part_wrong (drop l.i (listed (view l.tree)))) ≡ earliest part_wrong (listed (view l.tree));
-  outer : option_or (option_map (λ p. entry_view p.now) l.outer) (first (codes "outer") (drop l.i (listed (view l.tree)))) ≡ first (codes "outer") (listed (view l.tree));
+  outer : option_or (option_map (λ p. entry_view p.now) l.outer) (first_with (codes "outer") (drop l.i (listed (view l.tree)))) ≡ first_with (codes "outer") (listed (view l.tree));
   sound : IfSome l.outer (λ p. HasSoundList (datum_of (entry_view p.now)));
 }

@@ -3,7 +3,7 @@ use Rattle.std.proofs.lemmas.Result.{IfOk-weaker}
 use Rattle.st_shape.specs.declared.point.Point.{Point}
 use Rattle.st_shape.specs.Rules.{FitsFrame}
 use Rattle.st_picture.specs.Bars.{bar, bar_start, bars, number_at, upright}
-use Rattle.st_picture.specs.Items.{at, drawing, line, place_of}
+use Rattle.st_picture.specs.Items.{grid_point, drawing, line, item_place}
 use Rattle.st_picture.proofs.BarLemmas.{bar_fits, line_fits}
 use Rattle.st_picture.proofs.bars.bars_and_lines.Goals as goal
 
@@ -14,7 +14,7 @@ compose-requires-clause-items c =
     let y = number_at c.args.heights.now in
     let x = number_at c.args.columns.now in
     let k = number_at c.args.lines.now in
-    let q : c.corner-frame.result ≡ at (x S.t_star - 1) (y S.sink) = c.corner-frame.ensures in (
+    let q : c.corner-frame.result ≡ grid_point (x S.t_star - 1) (y S.sink) = c.corner-frame.ensures in (
       bar S N y x,
       upright S y k,
       record {
@@ -39,8 +39,8 @@ returns c =
     let y = number_at c.args.heights.now in
     let x = number_at c.args.columns.now in
     let k = number_at c.args.lines.now in
-    let q : c.corner-frame.result ≡ at (x S.t_star - 1) (y S.sink) = c.corner-frame.ensures in
-    IfOk-weaker c.compose.result (λ d. d ≡ drawing S N c.args.form c.corner-frame.result (bar S N y x) (upright S y k) (λ v. place_of (bar S N y x v))) (λ d. d ≡ bars S N c.args.form y x k)
+    let q : c.corner-frame.result ≡ grid_point (x S.t_star - 1) (y S.sink) = c.corner-frame.ensures in
+    IfOk-weaker c.compose.result (λ d. d ≡ drawing S N c.args.form c.corner-frame.result (bar S N y x) (upright S y k) (λ v. item_place (bar S N y x v))) (λ d. d ≡ bars S N c.args.form y x k)
     (λ d p. p ∙ ap (λ z. drawing S N c.args.form z (bar S N y x) (upright S y k) (bar_start S y x)) q)
     (c.compose.ensures (bar S N y x) (upright S y k) (record {
       figures = record {

@@ -2,7 +2,7 @@ use Rattle.std.proofs.Common.{◌≡◌, ◌+◌, ◌<◌, ◌^◌, ◌++◌, le
 use Rattle.std.proofs.lemmas.Result.{IfOk-weaker}
 use Rattle.st_shape.specs.Rules.{Drawing, FitsFrame}
 use Rattle.st_sides.specs.Sides.{edge_count}
-use Rattle.st_picture.specs.Items.{drawing, labels, line, place_at, place_of}
+use Rattle.st_picture.specs.Items.{drawing, labels, line, place_at, item_place}
 use Rattle.st_picture.proofs.JoinLemmas.{start, figures, second, first_by, second_by, figures_first, count_first, count_second, drawing_is}
 use Rattle.st_picture.proofs.NameLemmas.{has_labels}
 use Rattle.st_picture.proofs.composing.compose.Goals as goal
@@ -84,5 +84,5 @@ returns g c = λ f p C.
     let m : c.edges-2.result ≡ edge_count S = c.edges-2.ensures.value in
     let p2 : c.push_each-2.new.picture ≡ second S N c.args.form c.args.frame f p =
     second_by S N c.args.form c.args.frame f p c.push_each.new.picture c.push_each-2.new.picture c.edges-2.result p1 m (c.in_ok-push_each-2.ensures (line S N p) (λ k x l q. C.lines.answers k x (omega arith) q)) in
-    IfOk-weaker c.push_labels.result (λ d. d ≡ record c.push_each-2.new.picture { items = c.push_each-2.new.picture.items ++ labels N (place_at c.push_each-2.new.picture.items) (length N.label) }) (λ d. d ≡ drawing S N c.args.form c.args.frame f p (λ v. place_of (f v)))
-    (λ d q. drawing_is S N c.args.form c.args.frame f p (λ v. place_of (f v)) (λ v l. refl) c.push_each-2.new.picture d (length N.label) p2 c.requires.names.labels q) c.push_labels.ensures
+    IfOk-weaker c.push_labels.result (λ d. d ≡ record c.push_each-2.new.picture { items = c.push_each-2.new.picture.items ++ labels N (place_at c.push_each-2.new.picture.items) (length N.label) }) (λ d. d ≡ drawing S N c.args.form c.args.frame f p (λ v. item_place (f v)))
+    (λ d q. drawing_is S N c.args.form c.args.frame f p (λ v. item_place (f v)) (λ v l. refl) c.push_each-2.new.picture d (length N.label) p2 c.requires.names.labels q) c.push_labels.ensures

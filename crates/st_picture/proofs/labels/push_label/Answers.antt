@@ -3,7 +3,7 @@ use Rattle.std.specs.Prelude.{FitsSigned}
 use Rattle.std.proofs.lemmas.Int.{to_z-of_z}
 use Rattle.std.proofs.lemmas.Result.{on_ok_weaker}
 use Rattle.st_shape.specs.Inside.{IsInside}
-use Rattle.st_picture.specs.Items.{place_at, place_of}
+use Rattle.st_picture.specs.Items.{place_at, item_place}
 use Rattle.st_picture.specs.Naming.{IsLabelText, label_text, vertex_name}
 use Rattle.st_picture.proofs.LabelLemmas.{place_is, place_inside, read_is, text_is, name_is, no_label, one_label}
 use Rattle.st_picture.proofs.labels.push_label.Goals as goal
@@ -16,7 +16,7 @@ push-requires-clause-fits c =
     let v = c.args.v.0 in
     let F = c.requires.figure in
     let q = read_is c.items.result.now v F.figure c.index-items-v.result c.index-items-v.is (ap (λ z. slice_get z v) c.items.ensures.same ∙ F.is) in
-    let p : place_at items v ≡ c.place_of-p.result = place_is items v F.figure F.is ∙ ap place_of q ∙ sym c.place_of-p.ensures in
+    let p : place_at items v ≡ c.place_of-p.result = place_is items v F.figure F.is ∙ ap item_place q ∙ sym c.place_of-p.ensures in
     let t = c.in_ok-text-in-Some.ensures in
     let text = c.requires.names.texts v c.in-Some.text c.requires.there (text_is N v c.get.result.now c.get.ensures.value ∙ c.in-Some.is) in
     let text' = subst IsLabelText (sym t) text in
@@ -30,7 +30,7 @@ returns-in_ok-text-in-Some c =
     let v = c.args.v.0 in
     let F = c.requires.figure in
     let q = read_is c.items.result.now v F.figure c.index-items-v.result c.index-items-v.is (ap (λ z. slice_get z v) c.items.ensures.same ∙ F.is) in
-    let p : place_at items v ≡ c.place_of-p.result = place_is items v F.figure F.is ∙ ap place_of q ∙ sym c.place_of-p.ensures in
+    let p : place_at items v ≡ c.place_of-p.result = place_is items v F.figure F.is ∙ ap item_place q ∙ sym c.place_of-p.ensures in
     let t = text_is N v c.get.result.now c.get.ensures.value ∙ c.in-Some.is ∙ ap Some (sym (c.in_ok-text-in-Some.ensures)) in
     let fit : FitsSigned w64 c.get-name.result.now = search rules in
     let n = name_is N v c.get-name.result.now c.get-name.ensures.value ∙ sym (to_z-of_z w64 c.get-name.result.now fit) in

@@ -1,7 +1,7 @@
 use Rattle.std.proofs.Common.{ℕ, ◌<◌, refl, sym, ap, subst}
 use Rattle.st_ids.specs.EdgeNumbers.{numbers}
 use Rattle.st_map.specs.Embedded.{darts}
-use Rattle.st_map.proofs.OrbitLemmas.{iterate-stays}
+use Rattle.st_map.proofs.Public.{iterate-stays}
 use Rattle.st_sides.specs.Rounds.{round}
 use Rattle.st_sides.proofs.RoundLemmas.{parts_are}
 use Rattle.st_sides.proofs.parts.parts.Goals as goal

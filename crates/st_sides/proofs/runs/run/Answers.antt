@@ -3,7 +3,7 @@ use Rattle.st_ids.specs.EdgeNumbers.{numbers}
 use Rattle.st_ids.specs.Ends.{is_out}
 use Rattle.st_map.specs.Embedded.{darts}
 use Rattle.st_map.specs.Orbits.{iterate}
-use Rattle.st_map.proofs.OrbitLemmas.{steps}
+use Rattle.st_map.proofs.Public.{steps}
 use Rattle.st_sides.specs.Rounds.{round}
 use Rattle.st_sides.specs.Stretches.{forward}
 use Rattle.st_sides.proofs.RoundLemmas.{run_goes, run_few, run_grows}

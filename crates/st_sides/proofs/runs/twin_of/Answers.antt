@@ -1,6 +1,6 @@
 use Rattle.std.proofs.Common.{arith}
 use Rattle.st_map.specs.Embedded.{edges}
-use Rattle.st_map.proofs.EndLemmas.{twin-below}
+use Rattle.st_map.proofs.Public.{twin-below}
 use Rattle.st_sides.proofs.runs.twin_of.Goals as goal
 
 pub returns-clause-within : goal.returns-clause-within

@@ -1,6 +1,6 @@
 use Rattle.std.proofs.Common.{◌≡◌, ℕ, ◌<◌, length, get_or}
-use Rattle.st_test.specs.Stripping.{enters}
 use Rattle.st_map.specs.Counting.{count_below}
+use Rattle.st_map.specs.Tables.{enters}
 use Rattle.st_test.proofs.stripping.count_edges_in.Given as goal
 
 abbrev pub invariant-loop-e : goal.invariant-loop-e

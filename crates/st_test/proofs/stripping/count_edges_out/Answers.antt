@@ -1,8 +1,8 @@
 use Rattle.std.proofs.Common.{◌≡◌, ◌<◌, length, get_or, ◌∙◌, arith}
 use Rattle.std.proofs.lemmas.List.{get_or_default}
 use Rattle.st_ids.specs.Graph.{tail_of, head_of}
-use Rattle.st_map.proofs.SumLemmas.{count-le}
-use Rattle.st_test.specs.Stripping.{leaves}
+use Rattle.st_map.proofs.Public.{count-le}
+use Rattle.st_map.specs.Tables.{leaves}
 use Rattle.st_test.proofs.stripping.count_edges_out.Goals as goal
 
 pub overflow_add-index_mut : goal.overflow_add-index_mut

@@ -1,6 +1,6 @@
 use Rattle.std.proofs.Common.{◌≡◌, ℕ, ◌<◌, length, get_or}
-use Rattle.st_test.specs.Stripping.{leaves}
 use Rattle.st_map.specs.Counting.{count_below}
+use Rattle.st_map.specs.Tables.{leaves}
 use Rattle.st_test.proofs.stripping.count_edges_out.Given as goal
 
 abbrev pub invariant-loop-e : goal.invariant-loop-e

@@ -1,6 +1,7 @@
 use Rattle.std.proofs.Common.{◌≡◌, ℕ, ◌<◌, length, get_or}
 use Rattle.st_ids.specs.Graph.{tail_of}
-use Rattle.st_test.specs.Stripping.{last_below, leaves}
+use Rattle.st_map.specs.Tables.{leaves}
+use Rattle.st_test.specs.Stripping.{last_below}
 use Rattle.st_test.proofs.stripping.link_edges.Given as goal
 
 abbrev pub invariant-loop-e : goal.invariant-loop-e

@@ -1,7 +1,8 @@
 use Rattle.std.proofs.Common.{◌≡◌, ℕ, ◌+◌, ◌-◌, ◌<◌, ◌≤◌, List, ◌∷◌, [], ◌++◌, length, get_or, ap, ◌∙◌, sym, subst, arith}
 use Rattle.std.proofs.Math.ListN.{set}
 use Rattle.st_ids.specs.Graph.{tail_of, head_of}
-use Rattle.st_test.specs.Stripping.{last_below, leaves}
+use Rattle.st_map.specs.Tables.{leaves}
+use Rattle.st_test.specs.Stripping.{last_below}
 use Rattle.st_test.specs.StripState.{AreGoing}
 use Rattle.st_test.proofs.StripSteps.{last_below-le}
 use Rattle.st_test.proofs.StripGoing.{going_none, going_all, going_on, going_next, some_left}

@@ -2,8 +2,7 @@ use Rattle.std.proofs.Common.{◌≡◌, ℕ, ◌+◌, ◌-◌, ◌^◌, ◌<◌
 use Rattle.std.proofs.lemmas.List.{get_or_default}
 use Rattle.st_map.specs.Embedded.{Embedded, darts}
 use Rattle.st_map.specs.Laws.{FacesAre}
-use Rattle.st_map.proofs.SumLemmas.{count-le}
-use Rattle.st_map.proofs.FaceLemmas.{faces_law}
+use Rattle.st_map.proofs.Public.{count-le, faces_law}
 use Rattle.st_test.specs.FaceNumbers.{AreFaces, FaceNumbers, is_least}
 use Rattle.st_test.specs.Tracing.{AreTracedBelow}
 use Rattle.st_test.proofs.TracingLemmas.{traced_more, traced_same, traced_all}

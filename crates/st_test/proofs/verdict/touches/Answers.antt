@@ -2,7 +2,7 @@ use Rattle.std.proofs.Common.{ℕ, ◌≡◌, ◌<◌, false, refl, sym, ◌∙�
 use Rattle.std.proofs.lemmas.Bool.{both_ways}
 use Rattle.st_map.specs.Embedded.{at, darts}
 use Rattle.st_map.specs.Laws.{FacesAre}
-use Rattle.st_map.proofs.FaceLemmas.{faces_law}
+use Rattle.st_map.proofs.Public.{faces_law}
 use Rattle.st_test.specs.FaceNumbers.{orbit_number}
 use Rattle.st_test.proofs.VerdictLemmas.{touches_from, touched_by}
 use Rattle.st_test.proofs.verdict.touches.Goals as goal

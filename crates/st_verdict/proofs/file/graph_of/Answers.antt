@@ -1,6 +1,6 @@
 use Rattle.std.proofs.Common.{arith}
 use Rattle.gml_core.specs.Views.{view}
-use Rattle.st_input.proofs.LawLemmas.{fits_together}
+use Rattle.st_input.proofs.Public.{fits_together}
 use Rattle.st_verdict.proofs.file.graph_of.Goals as goal
 
 pub returns-in-Ok-clause-consistent : goal.returns-in-Ok-clause-consistent

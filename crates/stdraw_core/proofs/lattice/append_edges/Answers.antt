@@ -1,6 +1,6 @@
 use Rattle.std.proofs.Common.{arith, rules, w64, FitsSigned}
 use Rattle.std.proofs.lemmas.Int.{to_z-of_z}
-use Rattle.st_verdict.proofs.VerdictLemmas.{item_within}
+use Rattle.st_verdict.proofs.Public.{item_within}
 use Rattle.stdraw_core.proofs.LatticeLemmas.{edges_push}
 use Rattle.stdraw_core.proofs.lattice.append_edges.Goals as goal
 

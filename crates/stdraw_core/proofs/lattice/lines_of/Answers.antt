@@ -1,6 +1,6 @@
 use Rattle.std.proofs.Common.{rules, w64, FitsSigned}
 use Rattle.std.proofs.lemmas.Int.{to_z-of_z}
-use Rattle.st_verdict.specs.Verdict.{vertex_name}
+use Rattle.st_verdict.specs.Verdict.{file_vertex_name}
 use Rattle.stdraw_core.specs.Lattice.{bound_line}
 use Rattle.stdraw_core.proofs.LatticeLemmas.{three_lines}
 use Rattle.stdraw_core.proofs.lattice.lines_of.Goals as goal
@@ -27,6 +27,6 @@ returns c =
       second = c.in_ok-append_shown-2.ensures.0;
       shows_second = c.in_ok-append_shown-2.ensures.1;
       text = three_lines c.new-text.result c.append_bound.new.text c.append_shown.new.text c.append_shown-2.new.text
-          (bound_line c.args.op (vertex_name g c.args.u.0) (vertex_name g c.args.v.0) (vertex_name g c.bound_of-bound.result.0)) c.in_ok-append_shown.ensures.0 c.in_ok-append_shown-2.ensures.0
+          (bound_line c.args.op (file_vertex_name g c.args.u.0) (file_vertex_name g c.args.v.0) (file_vertex_name g c.bound_of-bound.result.0)) c.in_ok-append_shown.ensures.0 c.in_ok-append_shown-2.ensures.0
           c.new-text.ensures line c.in_ok-append_shown.ensures.2 c.in_ok-append_shown-2.ensures.2;
     }

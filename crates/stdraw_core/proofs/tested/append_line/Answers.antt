@@ -4,8 +4,8 @@ use Rattle.std.proofs.lemmas.Option.{get_or_from_slice_get}
 use Rattle.std.proofs.lemmas.Result.{on_ok_weaker}
 use Rattle.st_map.specs.Embedded.{edges, faces}
 use Rattle.st_report.specs.Lines.{numbered}
-use Rattle.st_verdict.specs.Verdict.{vertex_name}
-use Rattle.st_report.proofs.LineLemmas.{six_pieces}
+use Rattle.st_verdict.specs.Verdict.{file_vertex_name}
+use Rattle.st_report.proofs.Public.{six_pieces}
 use Rattle.stdraw_core.proofs.tested.append_line.Goals as goal
 
 pub returns : goal.returns
@@ -17,8 +17,8 @@ returns c =
     let face_count : c.count.result ≡ faces st.map.graph = search rules in
     let source_read = rw (c.names-names.ensures.vertex, c.source.ensures.value) at c.get.ensures.value in
     let sink_read = rw (c.names-names.ensures.vertex, c.sink.ensures.value) at c.get-2.ensures.value in
-    let source_name : vertex_name c.args.spec.now st.source ≡ c.get.result.now = get_or_from_slice_get names st.source c.get.result.now (pos 0) source_read in
-    let sink_name : vertex_name c.args.spec.now st.sink ≡ c.get-2.result.now = get_or_from_slice_get names st.sink c.get-2.result.now (pos 0) sink_read in
+    let source_name : file_vertex_name c.args.spec.now st.source ≡ c.get.result.now = get_or_from_slice_get names st.source c.get.result.now (pos 0) source_read in
+    let sink_name : file_vertex_name c.args.spec.now st.sink ≡ c.get-2.result.now = get_or_from_slice_get names st.sink c.get-2.result.now (pos 0) sink_read in
     let source_fits : FitsSigned w64 c.get.result.now = search rules in
     let sink_fits : FitsSigned w64 c.get-2.result.now = search rules in
     let vertices_added = rw vertex_count at c.in_ok-append_number.ensures in
@@ -30,6 +30,6 @@ returns c =
     (six_pieces c.args.text.now c.append.new.self c.append_number.new.text c.append_number-2.new.text c.append_number-3.new.text c.append_number-4.new.text c.append_number-5.new.text
     (codes "planar st-graph: ") (numbered [] (pos st.map.graph.vertices) (codes " vertices, "))
     (numbered [] (pos (edges st.map.graph)) (codes " edges, ")) (numbered [] (pos (faces st.map.graph)) (codes " faces, source "))
-    (numbered [] (vertex_name c.args.spec.now st.source) (codes ", sink ")) (numbered [] (vertex_name c.args.spec.now st.sink) (codes "\n"))
+    (numbered [] (file_vertex_name c.args.spec.now st.source) (codes ", sink ")) (numbered [] (file_vertex_name c.args.spec.now st.sink) (codes "\n"))
     c.in_ok-append.ensures.ok vertices_added edges_added faces_added source_added)
     sink_added

@@ -1,0 +1,2 @@
+-- The lemmas of this crate that others cite.
+pub use Rattle.eps_check.proofs.VerdictLemmas.{one_verdict}

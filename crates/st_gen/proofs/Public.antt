@@ -1,0 +1,2 @@
+-- The lemmas of this crate that others cite.
+pub use Rattle.st_gen.proofs.MadeLemmas.{one_graph}
