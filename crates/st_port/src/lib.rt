@@ -22,3 +22,6 @@ pub use piece::Piece;
 pub use port::{Failed, ReadEnd, Sink, Source};
 pub use sure::{CountSink, SureSource};
 pub use whole::{read_all, write_all};
+
+#[cfg(test)]
+mod halting_tests;
