@@ -8,7 +8,7 @@ use Rattle.gml_core.specs.Trees.{Entry}
 use Rattle.st_parts.specs.Used.{key_text}
 use Rattle.st_parts.specs.Keys.{word_of_key, all_keys, key_rank, known_among, known, same, IsKnown}
 use Rattle.st_parts.specs.declared.keys.Key.{Key}
-use Rattle.st_parts.specs.declared.keys.Key.TheVariants.{Source, Target, Edge, Node, Id, Name, Label, Order, Path, Outer, Side}
+use Rattle.st_parts.specs.declared.keys.Key.TheVariants.{Source, Target, Edge, Node, Id, Name, Label, Order, Path, Outer, Side, Minlen}
 
 -- the table has a key under its own bytes
 word_known : (k : Key) → known (word_of_key k) ≡ Some k
@@ -23,6 +23,7 @@ word_known Order = refl
 word_known Path = refl
 word_known Outer = refl
 word_known Side = refl
+word_known Minlen = refl
 
 -- each key has the place of its rank in the table
 rank_at : ℕ → Key
@@ -41,6 +42,7 @@ at_rank Order = refl
 at_rank Path = refl
 at_rank Outer = refl
 at_rank Side = refl
+at_rank Minlen = refl
 
 same_self : (k : Key) → same k (Some k) ≡ true
 same_self Source = refl
@@ -54,6 +56,7 @@ same_self Order = refl
 same_self Path = refl
 same_self Outer = refl
 same_self Side = refl
+same_self Minlen = refl
 
 -- a key that the table finds has these bytes
 spelled : (ks : List Key) (bs : List ℕ) (j : Key) → known_among ks bs ≡ Some j → bs ≡ word_of_key j
@@ -93,6 +96,7 @@ is_known e = record {
   path = has_word Path (key_text e);
   outer = has_word Outer (key_text e);
   side = has_word Side (key_text e);
+  minlen = has_word Minlen (key_text e);
 }
 
 -- six bytes, each of which is known
@@ -112,3 +116,6 @@ is_source bs least most p q r s t u = sym (ap known (six_are bs 115 111 117 114 
 
 pub is_target : (bs : List ℕ) → 6 ≤ length bs → length bs < 7 → get_or bs 0 0 ≡ 116 → get_or bs 1 0 ≡ 97 → get_or bs 2 0 ≡ 114 → get_or bs 3 0 ≡ 103 → get_or bs 4 0 ≡ 101 → get_or bs 5 0 ≡ 116 → Some Target ≡ known bs
 is_target bs least most p q r s t u = sym (ap known (six_are bs 116 97 114 103 101 116 least most p q r s t u))
+
+pub is_minlen : (bs : List ℕ) → 6 ≤ length bs → length bs < 7 → get_or bs 0 0 ≡ 109 → get_or bs 1 0 ≡ 105 → get_or bs 2 0 ≡ 110 → get_or bs 3 0 ≡ 108 → get_or bs 4 0 ≡ 101 → get_or bs 5 0 ≡ 110 → Some Minlen ≡ known bs
+is_minlen bs least most p q r s t u = sym (ap known (six_are bs 109 105 110 108 101 110 least most p q r s t u))

@@ -8,7 +8,7 @@ use Rattle.std.specs.Prelude.{◌≡◌, ◌==◌, ℕ, Bool, false, List, [], �
 use Rattle.gml_core.specs.Trees.{Entry}
 use Rattle.st_parts.specs.Used.{has_key}
 use Rattle.st_parts.specs.declared.keys.Key.{Key}
-use Rattle.st_parts.specs.declared.keys.Key.TheVariants.{Source, Target, Edge, Node, Id, Name, Label, Order, Path, Outer, Side}
+use Rattle.st_parts.specs.declared.keys.Key.TheVariants.{Source, Target, Edge, Node, Id, Name, Label, Order, Path, Outer, Side, Minlen}
 
 abbrev pub word_of_key : Key → List ℕ
 word_of_key Source = codes "source"
@@ -22,9 +22,10 @@ word_of_key Order = codes "order"
 word_of_key Path = codes "path"
 word_of_key Outer = codes "outer"
 word_of_key Side = codes "side"
+word_of_key Minlen = codes "minlen"
 
 abbrev pub all_keys : List Key
-all_keys = Source ∷ Target ∷ Edge ∷ Node ∷ Id ∷ Name ∷ Label ∷ Order ∷ Path ∷ Outer ∷ Side ∷ []
+all_keys = Source ∷ Target ∷ Edge ∷ Node ∷ Id ∷ Name ∷ Label ∷ Order ∷ Path ∷ Outer ∷ Side ∷ Minlen ∷ []
 
 abbrev pub key_rank : Key → ℕ
 key_rank Source = 0
@@ -38,6 +39,7 @@ key_rank Order = 7
 key_rank Path = 8
 key_rank Outer = 9
 key_rank Side = 10
+key_rank Minlen = 11
 
 -- the key among some that has these bytes
 abbrev pub known_among : List Key → List ℕ → Option Key
@@ -64,3 +66,4 @@ pub record IsKnown (o : Option Key) (e : Entry) : Type 0 where
   pub path : has_key (codes "path") e ≡ same Path o
   pub outer : has_key (codes "outer") e ≡ same Outer o
   pub side : has_key (codes "side") e ≡ same Side o
+  pub minlen : has_key (codes "minlen") e ≡ same Minlen o

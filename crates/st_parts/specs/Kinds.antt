@@ -62,7 +62,7 @@ abbrev pub node_wrong : List Entry → Option ℕ
 node_wrong es = earlier (first_wrong (codes "id") es) (first_inside names_wrong (codes "order") es)
 
 abbrev pub edge_wrong : List Entry → Option ℕ
-edge_wrong es = earlier (first_wrong (codes "id") es) (earlier (first_wrong (codes "source") es) (first_wrong (codes "target") es))
+edge_wrong es = earlier (first_wrong (codes "id") es) (earlier (first_wrong (codes "source") es) (earlier (first_wrong (codes "target") es) (first_wrong (codes "minlen") es)))
 
 abbrev pub outer_wrong : List Entry → Option ℕ
 outer_wrong es = earlier (first_wrong (codes "edge") es) (first_wrong (codes "side") es)

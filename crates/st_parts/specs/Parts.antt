@@ -2,18 +2,19 @@
 --   shown bs        a label as it is shown: of its first 80 bytes, each outside 32 to 126 as a question mark
 --   node_in e       the place of a node, its name and the edges that it lists
 --   label_in e      the shown label of a node
---   edge_in e       the name of an edge and the names of its ends
+--   edge_in e       the name of an edge, the names of its ends and its least length
 --   outer_in e      the edge and the side of the outer face
 --   path_in e       the names of the edges of a path
 --   parts_in e      all of these, of a pair `graph`
 --   second key es   the place of the second pair with a key
 -- Where a value has another kind than it should, what it says is nothing, or the name 0. That is a fault of its own.
-use Rattle.std.specs.Prelude.{ℕ, ℤ, pos, ◌&&◌, nat_le, map, take, length, ◌==◌, List, [], Option, None, Some, if◌then◌else◌, codes, slice_get}
+use Rattle.std.specs.Prelude.{ℕ, ℤ, pos, ◌&&◌, nat_le, map, take, length, ◌==◌, List, [], Option, None, Some, if◌then◌else◌, codes, slice_get, option_and_then}
 use Rattle.std.specs.Option.{option_map, unwrap_or}
 use Rattle.gml_core.specs.Trees.{Entry}
 use Rattle.st_parts.specs.Used.{place_of, datum_of, first_with, each, int_in, list_in, first_int, first_str, first_list}
 use Rattle.st_parts.specs.declared.parts.Mention.{Mention}
 use Rattle.st_parts.specs.declared.parts.Node.{Node}
+use Rattle.st_parts.specs.declared.parts.Minlen.{Minlen}
 use Rattle.st_parts.specs.declared.parts.Edge.{Edge}
 use Rattle.st_parts.specs.declared.parts.Outer.{Outer}
 use Rattle.st_parts.specs.declared.parts.Parts.{Parts}
@@ -58,11 +59,23 @@ node_says at es = record {
 abbrev pub label_says : List Entry → Option (List ℕ)
 label_says es = shown_label (first_str (codes "label") es)
 
+-- the least length that a pair says, where its value is an integer
+abbrev pub minlen_in : Entry → Option Minlen
+minlen_in e = option_map (λ (n : ℤ). minlen_at n (place_of e)) (int_in (datum_of e))
+  where
+    minlen_at : ℤ → ℕ → Minlen
+    minlen_at n at = record { rows = n; at = at }
+
+-- the same of a pair that may be there
+abbrev pub minlen_of : Option Entry → Option Minlen
+minlen_of o = option_and_then minlen_in o
+
 abbrev pub edge_says : List Entry → Edge
 edge_says es = record {
   id = first_int (codes "id") es;
   source = first_int (codes "source") es;
   target = first_int (codes "target") es;
+  minlen = minlen_of (first_with (codes "minlen") es);
 }
 
 abbrev pub outer_says : ℕ → List Entry → Outer

@@ -20,6 +20,7 @@ pub(crate) struct Firsts<'a> {
     pub(crate) side: Option<&'a Pair>,
     pub(crate) label: Option<&'a Pair>,
     pub(crate) order: Option<&'a Pair>,
+    pub(crate) minlen: Option<&'a Pair>,
 }
 
 /// The pair before, or else this one.
@@ -44,6 +45,7 @@ fn noted<'a>(firsts: Firsts<'a>, pair: &'a Pair) -> Firsts<'a>
     ensures side { option_map (λ p. entry_view p.now) result.side ≡ option_or (option_map (λ p. entry_view p.now) firsts.entry.side) (first_with (codes "side") (entry_view pair.now ∷ [])) }
     ensures label { option_map (λ p. entry_view p.now) result.label ≡ option_or (option_map (λ p. entry_view p.now) firsts.entry.label) (first_with (codes "label") (entry_view pair.now ∷ [])) }
     ensures order { option_map (λ p. entry_view p.now) result.order ≡ option_or (option_map (λ p. entry_view p.now) firsts.entry.order) (first_with (codes "order") (entry_view pair.now ∷ [])) }
+    ensures minlen { option_map (λ p. entry_view p.now) result.minlen ≡ option_or (option_map (λ p. entry_view p.now) firsts.entry.minlen) (first_with (codes "minlen") (entry_view pair.now ∷ [])) }
     ensures sound { IfSome result.order (λ p. HasSoundList (datum_of (entry_view p.now))) }
 {
     let mut firsts = firsts;
@@ -55,6 +57,7 @@ fn noted<'a>(firsts: Firsts<'a>, pair: &'a Pair) -> Firsts<'a>
         Some(Key::Side) => firsts.side = or_pair(firsts.side, pair),
         Some(Key::Label) => firsts.label = or_pair(firsts.label, pair),
         Some(Key::Order) => firsts.order = or_pair(firsts.order, pair),
+        Some(Key::Minlen) => firsts.minlen = or_pair(firsts.minlen, pair),
         _ => {}
     }
     firsts
@@ -70,6 +73,7 @@ pub(crate) fn firsts_of<'a>(tree: &'a Tree) -> Firsts<'a>
     ensures side { option_map (λ p. entry_view p.now) result.side ≡ first_with (codes "side") (listed (view tree.now)) }
     ensures label { option_map (λ p. entry_view p.now) result.label ≡ first_with (codes "label") (listed (view tree.now)) }
     ensures order { option_map (λ p. entry_view p.now) result.order ≡ first_with (codes "order") (listed (view tree.now)) }
+    ensures minlen { option_map (λ p. entry_view p.now) result.minlen ≡ first_with (codes "minlen") (listed (view tree.now)) }
     ensures sound { IfSome result.order (λ p. HasSoundList (datum_of (entry_view p.now))) }
 {
     let mut firsts = Firsts {
@@ -80,6 +84,7 @@ pub(crate) fn firsts_of<'a>(tree: &'a Tree) -> Firsts<'a>
         side: None,
         label: None,
         order: None,
+        minlen: None,
     };
     for i in 0..tree.len() {
         firsts = noted(firsts, pair_at(tree, i));

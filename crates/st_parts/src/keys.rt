@@ -21,6 +21,7 @@ pub(crate) enum Key {
     Path,
     Outer,
     Side,
+    Minlen,
 }
 
 fn known_key(bytes: &[u8]) -> Option<Key>
@@ -38,6 +39,7 @@ fn known_key(bytes: &[u8]) -> Option<Key>
         [b'p', b'a', b't', b'h'] => Some(Key::Path),
         [b'o', b'u', b't', b'e', b'r'] => Some(Key::Outer),
         [b's', b'i', b'd', b'e'] => Some(Key::Side),
+        [b'm', b'i', b'n', b'l', b'e', b'n'] => Some(Key::Minlen),
         _ => None,
     }
 }

@@ -37,12 +37,20 @@ pub struct Node {
     pub order: Option<Items<Mention>>,
 }
 
+/// A least length, in rows, and where it stands.
+#[derive(Clone, Copy)]
+pub struct Minlen {
+    pub rows: i64,
+    pub at: u32,
+}
+
 /// What a pair `edge` says.
 #[derive(Clone, Copy)]
 pub struct Edge {
     pub id: Option<i64>,
     pub source: Option<i64>,
     pub target: Option<i64>,
+    pub minlen: Option<Minlen>,
 }
 
 /// What the pair `outer` says.

@@ -18,5 +18,6 @@ loop-i-preserved c =
       side = first_step (codes "side") es d rest e _ _ c.pair_at.ensures.rest c.noted-firsts.ensures.side c.loop-i.invariant.side;
       label = first_step (codes "label") es d rest e _ _ c.pair_at.ensures.rest c.noted-firsts.ensures.label c.loop-i.invariant.label;
       order = first_step (codes "order") es d rest e _ _ c.pair_at.ensures.rest c.noted-firsts.ensures.order c.loop-i.invariant.order;
+      minlen = first_step (codes "minlen") es d rest e _ _ c.pair_at.ensures.rest c.noted-firsts.ensures.minlen c.loop-i.invariant.minlen;
       sound = c.noted-firsts.ensures.sound;
     }

@@ -14,5 +14,6 @@ invariant-loop-i l = record {
   side : option_or (option_map (λ p. entry_view p.now) l.firsts.side) (first_with (codes "side") (drop l.i (listed (view l.tree)))) ≡ first_with (codes "side") (listed (view l.tree));
   label : option_or (option_map (λ p. entry_view p.now) l.firsts.label) (first_with (codes "label") (drop l.i (listed (view l.tree)))) ≡ first_with (codes "label") (listed (view l.tree));
   order : option_or (option_map (λ p. entry_view p.now) l.firsts.order) (first_with (codes "order") (drop l.i (listed (view l.tree)))) ≡ first_with (codes "order") (listed (view l.tree));
+  minlen : option_or (option_map (λ p. entry_view p.now) l.firsts.minlen) (first_with (codes "minlen") (drop l.i (listed (view l.tree)))) ≡ first_with (codes "minlen") (listed (view l.tree));
   sound : IfSome l.firsts.order (λ p. HasSoundList (datum_of (entry_view p.now)));
 }
