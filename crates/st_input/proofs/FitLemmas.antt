@@ -1,5 +1,5 @@
 -- The tables of a graph without a fault fit together.
-use Rattle.std.proofs.Common.{◌≡◌, ◌≢◌, ◌<◌, ◌≤◌, ◌^◌, ◌*◌, ◌+◌, ℕ, suc, zero, ℤ, pos, negsuc, Bool, true, false, cond, eqb, List, [], ◌∷◌, ◌++◌, length, map, take, get_or, slice_get, refl, ap, sym, subst, ◌∙◌, arith, append_assoc, append-nil, Option, Some, None, IfSome, is_some, nat_abs, codes, inl, inr}
+use Rattle.std.proofs.Common.{◌≡◌, ◌≢◌, ◌<◌, ◌≤◌, ◌^◌, ◌*◌, ◌+◌, ℕ, suc, zero, ℤ, pos, negsuc, Bool, true, false, cond, eqb, List, [], ◌∷◌, ◌++◌, length, map, take, get_or, slice_get, refl, ap, sym, subst, ◌∙◌, arith, append_assoc, append-nil, Option, Some, None, IfSome, All, is_some, nat_abs, codes, inl, inr}
 use Rattle.std.specs.Option.{unwrap_or}
 use Rattle.std.proofs.lemmas.Bool.{eqb-false}
 use Rattle.std.proofs.lemmas.Bool.Decides.{nat_tests}
@@ -10,15 +10,17 @@ use Rattle.gml_core.specs.Trees.{Entry}
 use Rattle.st_parts.specs.Used.{has_key, each, first_str}
 use Rattle.st_parts.specs.Parts.{shown, shown_byte, shown_label, label_in, node_in, parts_in, pairs_in}
 use Rattle.st_input.specs.Names.{number_of, is_among, AreDifferent, positions}
-use Rattle.st_input.specs.Faults.{or_else, first_fault, name_fault, node_fault, node_name, node_names, mention_fault, order_fault, written_fault, orders_fault, edge_number, edges_in, edge_names, edge_ids, edge_id, all_named, same_fault, id_fault, ids_fault, ends_in, pair_in}
+use Rattle.st_input.specs.Faults.{or_else, first_fault, name_fault, node_fault, node_name, node_names, mention_fault, order_fault, written_fault, orders_fault, edge_number, edges_in, edge_names, edge_ids, edge_id, edge_fault, ends_fault, is_length, length_fault, rows_of, length_in, lengths_in, all_named, same_fault, id_fault, ids_fault, ends_in, pair_in}
 use Rattle.st_input.specs.Orders.{file_outs, file_ins, default_order, order_from, orders_from, full_orders}
+use Rattle.st_ids.specs.Lengths.{IsLength}
 use Rattle.st_input.specs.InputGraph.{IsShownByte, IsLabel, AreShownLabels, IsConsistent}
 use Rattle.st_input.specs.Embedding.{written_end, outer_end, embedded_in}
 use Rattle.st_input.specs.FirstFault.{is_side, side_fault, outer_fault, parts_fault}
 use Rattle.st_input.specs.declared.fault.ShapeFault.{ShapeFault}
-use Rattle.st_input.specs.declared.fault.ShapeFault.TheVariants.{SameId, SameEdgeId, UnknownEdge, BadOuter}
+use Rattle.st_input.specs.declared.fault.ShapeFault.TheVariants.{SameId, BadLength, SameEdgeId, UnknownEdge, BadOuter}
 use Rattle.st_parts.specs.declared.parts.Mention.{Mention}
 use Rattle.st_parts.specs.declared.parts.Node.{Node}
+use Rattle.st_parts.specs.declared.parts.Minlen.{Minlen}
 use Rattle.st_parts.specs.declared.parts.Edge.{Edge}
 use Rattle.st_parts.specs.declared.parts.Outer.{Outer}
 use Rattle.st_parts.specs.declared.parts.Parts.{Parts}
@@ -90,6 +92,25 @@ names_differ es e = by (all_named es) e
     by : (b : Bool) → cond b (first_fault id_fault [] es) None ≡ None → AreDifferent (cond b (edge_ids es) (positions (length es)))
     by true h = different_ids [] es none_different h
     by false h = positions_differ (length es)
+
+-- ---- lengths
+rows_are : (n : ℤ) → is_length n ≡ true → IsLength (nat_abs n)
+rows_are (pos n) is = (grind (arith, nat_tests), grind (arith, nat_tests))
+rows_are (negsuc n) is = absurd (cc)
+
+length_is : (o : Option Minlen) → length_fault o ≡ None → IsLength (rows_of o)
+length_is None e = (omega arith, omega arith)
+length_is (Some m) e = by (is_length m.rows) refl e
+  where
+    by : (b : Bool) → is_length m.rows ≡ b → cond b None (Some (BadLength m.at)) ≡ None → IsLength (nat_abs m.rows)
+    by true is h = rows_are m.rows is
+    by false is h = absurd (cc)
+
+-- where no edge has a fault, each length is one
+lengths_are : (vertices : List ℤ) (before es : List Edge) → first_fault (edge_fault vertices) before es ≡ None → All IsLength (lengths_in es)
+lengths_are vertices before [] e k d lt = absurd (omega arith)
+lengths_are vertices before (x ∷ es) e zero d lt = length_is x.minlen (or_none (ends_fault vertices (length before) x.source x.target) (length_fault x.minlen) (or_none (edge_fault vertices before x) (first_fault (edge_fault vertices) (before ++ x ∷ []) es) e).0).1
+lengths_are vertices before (x ∷ es) e (suc k) d lt = lengths_are vertices (before ++ x ∷ []) es (or_none (edge_fault vertices before x) (first_fault (edge_fault vertices) (before ++ x ∷ []) es) e).1 k d (omega arith)
 
 -- ---- labels
 each_cond : {A B : Type 0} (b : Bool) (x : A) (xs : List A) (y : B) (ys : List B) → length xs ≡ length ys → length (cond b (x ∷ xs) xs) ≡ length (cond b (y ∷ ys) ys)
@@ -255,6 +276,8 @@ consistent_in p a b e few_nodes few_edges labels printable =
       few_edges = few;
       vertex_names = length-map p.nodes node_name;
       edge_names = size;
+      lengths = length-map p.edges length_in ∙ sym count;
+      rows = lengths_are names [] p.edges e1.0;
       labels = labels;
       orders = orders_length ids ends 0 p.nodes;
       different = different_nodes [] p.nodes none_different e0.0;

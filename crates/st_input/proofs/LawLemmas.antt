@@ -1,14 +1,17 @@
 -- What the definitions say together.
-use Rattle.std.proofs.Common.{◌≡◌, ◌<◌, ◌≤◌, ◌^◌, ℕ, Bool, true, false, cond, nat_lt, Option, Some, None, option_map, [], length, codes, refl, subst, arith}
+use Rattle.std.proofs.Common.{◌≡◌, ◌<◌, ◌≤◌, ◌^◌, ℕ, Bool, true, false, cond, nat_lt, ◌∙◌, List, ◌∷◌, zero, suc, ap, sym, slice_get, Option, Some, None, option_map, [], length, codes, refl, subst, arith}
+use Rattle.std.specs.Prelude.{replicate}
 use Rattle.std.proofs.lemmas.Bool.Decides.{nat_tests}
 use Rattle.std.proofs.lemmas.List.{length-map}
 use Rattle.gml_core.specs.Trees.{Entry, Entries, listed}
-use Rattle.st_parts.specs.Used.{first_with}
-use Rattle.st_parts.specs.Parts.{parts_in}
+use Rattle.st_parts.specs.Used.{has_key, first_with, each}
+use Rattle.st_parts.specs.Parts.{minlen_of, pairs_in, edge_in, parts_in}
 use Rattle.st_input.specs.InputGraph.{InputGraph, IsConsistent}
 use Rattle.st_input.specs.Embedding.{embedded_in, embedded_graph}
-use Rattle.st_input.specs.Faults.{or_else, first_fault, node_fault, edge_fault, node_names, ids_fault, orders_fault, edge_names, pair_in, ends_in}
+use Rattle.st_input.specs.Faults.{or_else, first_fault, node_fault, edge_fault, node_names, ids_fault, orders_fault, edge_names, pair_in, ends_in, rows_of, length_in, lengths_in}
 use Rattle.st_input.specs.FirstFault.{limits_fault, outer_fault, parts_fault, text_fault, graph_fault, shape_fault}
+use Rattle.st_input.specs.Laws.{HasNoLengths}
+use Rattle.st_parts.specs.declared.parts.Edge.{Edge}
 use Rattle.st_input.specs.declared.fault.ShapeFault.{ShapeFault}
 use Rattle.st_input.specs.declared.fault.ShapeFault.TheVariants.{TooManyVertices, TooManyEdges}
 use Rattle.st_parts.specs.declared.parts.Parts.{Parts}
@@ -76,3 +79,28 @@ within_limits text max_n max_m g clear is = by (first_with (codes "graph") (list
         let counted : length (ends_in (node_names (parts_in e).nodes) (parts_in e).edges) ≡ length (parts_in e).edges = length-map (parts_in e).edges (pair_in (node_names (parts_in e).nodes)) in
         let same : embedded_in (parts_in e) ≡ g = some_same (embedded_in (parts_in e)) g q in
         subst (λ (z : InputGraph). (z.graph.vertices ≤ max_n) × (length z.graph.ends ≤ max_m)) same (nodes, omega arith)
+
+-- ---- lengths
+all_one : (xs : List Entry) → ((e : Entry) (k : ℕ) → slice_get xs k ≡ Some e → has_key (codes "edge") e ≡ true → first_with (codes "minlen") (pairs_in e) ≡ None) → lengths_in (each (codes "edge") edge_in xs) ≡ replicate (length (each (codes "edge") edge_in xs)) 1
+all_one [] without = refl
+all_one (e ∷ xs) without = by (has_key (codes "edge") e) refl (all_one xs (λ x k. without x (suc k)))
+  where
+    es : List Edge
+    es = each (codes "edge") edge_in xs
+
+    by : (b : Bool) → has_key (codes "edge") e ≡ b → lengths_in es ≡ replicate (length es) 1 → lengths_in (cond b (edge_in e ∷ es) es) ≡ replicate (length (cond b (edge_in e ∷ es) es)) 1
+    by true q rest =
+        let one : length_in (edge_in e) ≡ 1 = ap (λ (o : Option Entry). rows_of (minlen_of o)) (without e 0 refl q) in
+        ap (λ (n : ℕ). n ∷ lengths_in es) one ∙ ap (λ (l : List ℕ). 1 ∷ l) rest
+    by false q rest = rest
+
+pub default_lengths : (text : Entries) (g : InputGraph) → HasNoLengths text → embedded_graph text ≡ Some g → g.lengths ≡ replicate (length g.graph.ends) 1
+unfolding embedded_graph
+default_lengths text g without is = by (first_with (codes "graph") (listed text)) refl is
+  where
+    by : (o : Option Entry) → first_with (codes "graph") (listed text) ≡ o → option_map (λ (e : Entry). embedded_in (parts_in e)) o ≡ Some g → g.lengths ≡ replicate (length g.graph.ends) 1
+    by None there q = absurd (cc)
+    by (Some e) there q =
+        let counted : length (ends_in (node_names (parts_in e).nodes) (parts_in e).edges) ≡ length (parts_in e).edges = length-map (parts_in e).edges (pair_in (node_names (parts_in e).nodes)) in
+        let ones : lengths_in (parts_in e).edges ≡ replicate (length (parts_in e).edges) 1 = all_one (pairs_in e) (λ x k. without e x k there) in
+        subst (λ (z : InputGraph). z.lengths ≡ replicate (length z.graph.ends) 1) (some_same (embedded_in (parts_in e)) g q) (ones ∙ ap (λ (n : ℕ). replicate n 1) (sym counted))

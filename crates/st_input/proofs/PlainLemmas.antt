@@ -12,6 +12,7 @@ use Rattle.st_ids.specs.Lists.{In}
 use Rattle.gml_core.specs.Trees.{Entry, Entries, none, more, listed, push}
 use Rattle.gml_core.specs.Views.{entries_of}
 use Rattle.st_input.specs.Found.{tabled}
+use Rattle.st_ids.specs.Lengths.{IsLength}
 use Rattle.st_input.specs.InputGraph.{IsConsistent, AreShownLabels, AreListed}
 use Rattle.st_input.specs.Names.{AreDifferent, is_among, positions}
 use Rattle.st_input.specs.Orders.{HasEndsBelow, Filled, default_order}
@@ -116,6 +117,11 @@ orders_size : (g : Graph) → length (default_orders g) ≡ g.vertices
 unfolding default_orders
 orders_size g = length-map-range_with_len (default_order g.ends) 0 g.vertices
 
+one_row : (n : ℕ) → All IsLength (replicate n 1)
+one_row n k d lt =
+    let here : k < n = omega (arith, lt, length-replicate {A = ℕ} n 1) in
+    subst IsLength (sym (get_or-replicate {A = ℕ} n k 1 d here)) (omega arith, omega arith)
+
 -- the tables fit together
 pub plain_fits : (g : Graph) → g.vertices < 2 ^ 30 → length g.ends < 2 ^ 30 → IsConsistent (plain_graph g)
 plain_fits g few_vertices few_edges = record {
@@ -123,6 +129,8 @@ plain_fits g few_vertices few_edges = record {
   few_edges = few_edges;
   vertex_names = counted_length g.vertices;
   edge_names = positions_length (length g.ends);
+  lengths = length-replicate {A = ℕ} (length g.ends) 1;
+  rows = one_row (length g.ends);
   labels = length-replicate g.vertices None;
   orders = orders_size g;
   different = counted_differ g.vertices;
@@ -133,12 +141,12 @@ plain_fits g few_vertices few_edges = record {
 }
 
 -- the tables that are built are those of the graph
-pub plain_tabled : (g : Graph) (vs es : List ℤ) (ls : List (Option (List ℕ))) (os : List (List ℕ)) (ps : List (List ℤ)) → vs ≡ counted g.vertices → es ≡ positions (length g.ends) → ls ≡ replicate g.vertices None → os ≡ default_orders g → ps ≡ [] → tabled g (record { vertex = vs; edge = es; label = ls }) os None ps ≡ plain_graph g
-plain_tabled g vs es ls os ps e0 e1 e2 e3 e4 = rw (e0, e1, e2, e3, e4) refl
+pub plain_tabled : (g : Graph) (vs es : List ℤ) (ns : List ℕ) (ls : List (Option (List ℕ))) (os : List (List ℕ)) (ps : List (List ℤ)) → vs ≡ counted g.vertices → es ≡ positions (length g.ends) → ns ≡ replicate (length g.ends) 1 → ls ≡ replicate g.vertices None → os ≡ default_orders g → ps ≡ [] → tabled g (record { vertex = vs; edge = es; label = ls }) ns os None ps ≡ plain_graph g
+plain_tabled g vs es ns ls os ps e0 e1 e2 e3 e4 e5 = rw (e0, e1, e2, e3, e4, e5) refl
 
 -- the same of tables that are told by their calls
-pub plain_built : (g : Graph) (n k m : ℕ) (vs es : List ℤ) (ls : List (Option (List ℕ))) (os : List (List ℕ)) (ps : List (List ℤ)) → vs ≡ counted n → n ≡ g.vertices → es ≡ positions m → m ≡ length g.ends → ls ≡ replicate k None → k ≡ g.vertices → os ≡ default_orders g → ps ≡ [] → tabled g (record { vertex = vs; edge = es; label = ls }) os None ps ≡ plain_graph g
-plain_built g n k m vs es ls os ps e0 n_is e1 m_is e2 k_is e3 e4 = plain_tabled g vs es ls os ps (e0 ∙ ap counted n_is) (e1 ∙ ap positions m_is) (e2 ∙ ap (λ (j : ℕ). replicate j None) k_is) e3 e4
+pub plain_built : (g : Graph) (n k m j : ℕ) (vs es : List ℤ) (ns : List ℕ) (ls : List (Option (List ℕ))) (os : List (List ℕ)) (ps : List (List ℤ)) → vs ≡ counted n → n ≡ g.vertices → es ≡ positions m → m ≡ length g.ends → ls ≡ replicate k None → k ≡ g.vertices → ns ≡ replicate j 1 → j ≡ length g.ends → os ≡ default_orders g → ps ≡ [] → tabled g (record { vertex = vs; edge = es; label = ls }) ns os None ps ≡ plain_graph g
+plain_built g n k m j vs es ns ls os ps e0 n_is e1 m_is e2 k_is e3 j_is e4 e5 = plain_tabled g vs es ns ls os ps (e0 ∙ ap counted n_is) (e1 ∙ ap positions m_is) (e3 ∙ ap (λ (i : ℕ). replicate i 1) j_is) (e2 ∙ ap (λ (i : ℕ). replicate i None) k_is) e4 e5
 
 -- ---- a pair more
 pub listed_push : (es : Entries) (e : Entry) → listed (push es e) ≡ listed es ++ e ∷ []

@@ -15,7 +15,7 @@ use Rattle.st_parts.specs.Used.{first_with, each}
 use Rattle.st_parts.specs.Kinds.{earliest, part_wrong, graph_wrong}
 use Rattle.st_parts.specs.Parts.{parts_say, node_in, label_in, edge_in, path_in}
 use Rattle.st_input.specs.Names.{number_of, is_among, AreDifferent, positions}
-use Rattle.st_input.specs.Faults.{or_else, first_fault, node_fault, node_name, node_names, edge_fault, unknown_end_fault, ids_fault, edge_names, ends_in, pair_in, orders_fault}
+use Rattle.st_input.specs.Faults.{or_else, first_fault, node_fault, node_name, node_names, edge_fault, ends_fault, unknown_end_fault, length_fault, lengths_in, ids_fault, edge_names, ends_in, pair_in, orders_fault}
 use Rattle.st_input.specs.Orders.{HasEndsBelow, default_order, orders_from, full_orders}
 use Rattle.st_input.specs.InputGraph.{InputGraph}
 use Rattle.st_input.specs.Embedding.{embedded_in, embedded_graph}
@@ -39,7 +39,7 @@ AreNodes (z ∷ zs) (n ∷ ns) = (n.id ≡ Some z) × (n.order ≡ None) × AreN
 
 -- an edge with the names of its ends
 abbrev plain_edge : List ℤ → ℕ × ℕ → Edge
-plain_edge names a = record { id = None; source = Some (get_or names a.0 (pos 0)); target = Some (get_or names a.1 (pos 0)) }
+plain_edge names a = record { id = None; source = Some (get_or names a.0 (pos 0)); target = Some (get_or names a.1 (pos 0)); minlen = None }
 
 record IsPlain (names table : List ℤ) (ends : List (ℕ × ℕ)) (xs : List Entry) : Type 0 where
   nodes : AreNodes names (each (codes "node") node_in xs)
@@ -232,7 +232,7 @@ ends_clear n before (a ∷ ends) all =
     let here : HasEndsBelow n a = all 0 a (omega arith) in
     let tail = end_found n (length before) a.0 here.0 in
     let head = end_found n (length before) a.1 here.1 in
-    none_or (edge_fault (counted n) before (plain_edge (counted n) a)) (first_fault (edge_fault (counted n)) (before ++ plain_edge (counted n) a ∷ []) (map (plain_edge (counted n)) ends)) (none_or (unknown_end_fault (counted n) (length before) (get_or (counted n) a.0 (pos 0))) (unknown_end_fault (counted n) (length before) (get_or (counted n) a.1 (pos 0))) tail head) (ends_clear n (before ++ plain_edge (counted n) a ∷ []) ends (λ k d lt. all (suc k) d (omega arith)))
+    none_or (edge_fault (counted n) before (plain_edge (counted n) a)) (first_fault (edge_fault (counted n)) (before ++ plain_edge (counted n) a ∷ []) (map (plain_edge (counted n)) ends)) (none_or (ends_fault (counted n) (length before) (plain_edge (counted n) a).source (plain_edge (counted n) a).target) (length_fault None) (none_or (unknown_end_fault (counted n) (length before) (get_or (counted n) a.0 (pos 0))) (unknown_end_fault (counted n) (length before) (get_or (counted n) a.1 (pos 0))) tail head) refl) (ends_clear n (before ++ plain_edge (counted n) a ∷ []) ends (λ k d lt. all (suc k) d (omega arith)))
 
 ends_are : (n : ℕ) (ends : List (ℕ × ℕ)) → All (HasEndsBelow n) ends → ends_in (counted n) (map (plain_edge (counted n)) ends) ≡ ends
 ends_are n [] all = refl
@@ -241,6 +241,10 @@ ends_are n (a ∷ ends) all =
     let pair : pair_in (counted n) (plain_edge (counted n) a) ≡ a = rw (number_counted n a.0 here.0, number_counted n a.1 here.1) refl in
     let rest = ends_are n ends (λ k d lt. all (suc k) d (omega arith)) in
     ap (λ (x : ℕ × ℕ). x ∷ ends_in (counted n) (map (plain_edge (counted n)) ends)) pair ∙ ap (λ (l : List (ℕ × ℕ)). a ∷ l) rest
+
+rows_are : (table : List ℤ) (ends : List (ℕ × ℕ)) → lengths_in (map (plain_edge table) ends) ≡ replicate (length ends) 1
+rows_are table [] = refl
+rows_are table (a ∷ ends) = ap (λ (l : List ℕ). 1 ∷ l) (rows_are table ends)
 
 ids_clear : (table : List ℤ) (ends : List (ℕ × ℕ)) → ids_fault (map (plain_edge table) ends) ≡ None
 ids_clear table [] = refl
@@ -283,8 +287,8 @@ orders_are : (g : Graph) (names : List ℤ) (ends : List (ℕ × ℕ)) (ns : Lis
 unfolding full_orders default_orders
 orders_are g names ends ns p is = orders_default names (counted g.vertices) ends 0 ns p ∙ rw (is, counted_length g.vertices) refl
 
-same_parts : (a b : ℕ) (e f : List (ℕ × ℕ)) (vs ws es fs : List ℤ) (ls : List (Option (List ℕ))) (os rs : List (List ℕ)) → a ≡ b → e ≡ f → vs ≡ ws → es ≡ fs → os ≡ rs → made (record { vertices = a; ends = e }) vs es ls os None [] ≡ made (record { vertices = b; ends = f }) ws fs ls rs None []
-same_parts a b e f vs ws es fs ls os rs e0 e1 e2 e3 e4 = rw (e0, e1, e2, e3, e4) refl
+same_parts : (a b : ℕ) (e f : List (ℕ × ℕ)) (vs ws es fs : List ℤ) (ns ms : List ℕ) (ls : List (Option (List ℕ))) (os rs : List (List ℕ)) → a ≡ b → e ≡ f → vs ≡ ws → es ≡ fs → ns ≡ ms → os ≡ rs → made (record { vertices = a; ends = e }) vs es ns ls os None [] ≡ made (record { vertices = b; ends = f }) ws fs ms ls rs None []
+same_parts a b e f vs ws es fs ns ms ls os rs e0 e1 e2 e3 e4 e5 = rw (e0, e1, e2, e3, e4, e5) refl
 
 parts_graph : (g : Graph) (ns : List Node) → All (HasEndsBelow g.vertices) g.ends → AreNodes (counted g.vertices) ns → embedded_in (plain_parts g ns) ≡ plain_graph g
 parts_graph g ns all p =
@@ -293,7 +297,7 @@ parts_graph g ns all p =
     let count : length ns ≡ n = nodes_count (counted n) ns p ∙ counted_length n in
     let names : node_names ns ≡ counted n = names_are (counted n) ns p in
     let ends : ends_in (node_names ns) es ≡ g.ends = rw names (ends_are n g.ends all) in
-    same_parts (length ns) n (ends_in (node_names ns) es) g.ends (node_names ns) (counted n) (edge_names es) (positions (length g.ends)) (replicate n None) (full_orders (edge_names es) (ends_in (node_names ns) es) ns) (default_orders g) count ends names (names_positions (counted n) g.ends) (orders_are g (edge_names es) (ends_in (node_names ns) es) ns p ends)
+    same_parts (length ns) n (ends_in (node_names ns) es) g.ends (node_names ns) (counted n) (edge_names es) (positions (length g.ends)) (lengths_in es) (replicate (length g.ends) 1) (replicate n None) (full_orders (edge_names es) (ends_in (node_names ns) es) ns) (default_orders g) count ends names (names_positions (counted n) g.ends) (rows_are (counted n) g.ends) (orders_are g (edge_names es) (ends_in (node_names ns) es) ns p ends)
 
 inner_back : (g : Graph) (at max_n max_m : ℕ) (es : Entries) → All (HasEndsBelow g.vertices) g.ends → g.vertices ≤ max_n → length g.ends ≤ max_m → IsPlain (counted g.vertices) (counted g.vertices) g.ends (listed es) → (shape_fault (more (entry (codes "graph") at (list es)) none) max_n max_m ≡ None) × (embedded_graph (more (entry (codes "graph") at (list es)) none) ≡ Some (plain_graph g))
 unfolding shape_fault embedded_graph

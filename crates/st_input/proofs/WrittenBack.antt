@@ -16,22 +16,24 @@ use Rattle.gml_core.specs.Trees.{list, Entry, entry, Entries, none, more, listed
 use Rattle.gml_core.specs.Views.{entries_of}
 use Rattle.gml_core.specs.Printing.{at_zero, entry_at_zero}
 use Rattle.st_parts.specs.Used.{has_key, first_with, each}
-use Rattle.st_parts.specs.Kinds.{earliest, name_wrong_of, names_wrong, node_wrong, outer_wrong, inside_of, part_wrong, graph_wrong}
-use Rattle.st_parts.specs.Parts.{shown_byte, shown, mention_in, mentions_in, node_says, label_says, outer_in, parts_say, node_in, label_in, edge_in, path_in}
+use Rattle.st_parts.specs.Kinds.{earliest, name_wrong_of, names_wrong, node_wrong, edge_wrong, outer_wrong, inside_of, part_wrong, graph_wrong}
+use Rattle.st_parts.specs.Parts.{shown_byte, shown, mention_in, mentions_in, node_says, label_says, edge_says, outer_in, parts_say, node_in, label_in, edge_in, path_in}
 use Rattle.st_parts.specs.declared.parts.Mention.{Mention}
 use Rattle.st_parts.specs.declared.parts.Node.{Node}
+use Rattle.st_parts.specs.declared.parts.Minlen.{Minlen}
 use Rattle.st_parts.specs.declared.parts.Edge.{Edge}
 use Rattle.st_parts.specs.declared.parts.Outer.{Outer}
 use Rattle.st_parts.specs.declared.parts.Parts.{Parts}
 use Rattle.st_input.specs.Names.{number_of, is_among, AreDifferent}
-use Rattle.st_input.specs.Faults.{first_fault, node_fault, node_names, edge_fault, unknown_end_fault, ids_fault, id_fault, all_named, edge_id, edge_ids, edge_names, ends_in, pair_in, order_fault, mention_fault, orders_fault, edges_in}
+use Rattle.st_input.specs.Faults.{first_fault, node_fault, node_names, edge_fault, ends_fault, unknown_end_fault, is_length, length_fault, rows_of, length_in, lengths_in, ids_fault, id_fault, all_named, edge_id, edge_ids, edge_names, ends_in, pair_in, order_fault, mention_fault, orders_fault, edges_in}
 use Rattle.st_input.specs.Faults.{edge_number}
 use Rattle.st_input.specs.Orders.{orders_from, full_orders}
+use Rattle.st_ids.specs.Lengths.{IsLength}
 use Rattle.st_input.specs.InputGraph.{InputGraph, IsConsistent, IsShownByte, IsLabel}
 use Rattle.st_input.specs.Embedding.{embedded_in, embedded_graph, outer_end}
 use Rattle.st_input.specs.FirstFault.{outer_fault, text_fault, parts_fault, shape_fault}
 use Rattle.st_input.specs.Plain.{int_pair}
-use Rattle.st_input.specs.Written.{name_of, name_pair, order_pair, label_pairs, node_pairs, written_node, written_edge, side_of, end_pairs, outer_pairs, written_pairs, written_entries}
+use Rattle.st_input.specs.Written.{name_of, name_pair, order_pair, label_pairs, node_pairs, written_node, length_of, length_pairs, edge_pairs, written_edge, side_of, end_pairs, outer_pairs, written_pairs, written_entries}
 use Rattle.st_input.proofs.NameLemmas.{number_in, decided_false}
 use Rattle.st_input.proofs.BuildLemmas.{made}
 use Rattle.st_input.proofs.FitLemmas.{names_push}
@@ -107,6 +109,19 @@ zero_node_pairs z o names es = ap (λ (l : List Entry). int_pair (codes "id") z 
 zero_written_node : (g : InputGraph) (v : ℕ) → entry_at_zero (written_node g v) ≡ written_node g v
 zero_written_node g v = ap (λ (l : Entries). entry (codes "node") 0 (list l)) (zero_entries (node_pairs g v) (zero_node_pairs (name_of g.vertex_names v) (get_or g.labels v None) g.edge_names (get_or g.orders v [])))
 
+zero_edge_pairs : (a b c : ℤ) (n : ℕ) → map entry_at_zero (int_pair (codes "id") a ∷ int_pair (codes "source") b ∷ int_pair (codes "target") c ∷ length_pairs n) ≡ int_pair (codes "id") a ∷ int_pair (codes "source") b ∷ int_pair (codes "target") c ∷ length_pairs n
+zero_edge_pairs a b c n = by (eqb n 1)
+  where
+    xs : Bool → List Entry
+    xs t = int_pair (codes "id") a ∷ int_pair (codes "source") b ∷ int_pair (codes "target") c ∷ cond t [] (int_pair (codes "minlen") (pos n) ∷ [])
+
+    by : (t : Bool) → map entry_at_zero (xs t) ≡ xs t
+    by true = refl
+    by false = refl
+
+zero_written_edge : (g : InputGraph) (e : ℕ) → entry_at_zero (written_edge g e) ≡ written_edge g e
+zero_written_edge g e = ap (λ (l : Entries). entry (codes "edge") 0 (list l)) (zero_entries (edge_pairs g e) (zero_edge_pairs (name_of g.edge_names e) (name_of g.vertex_names (tail_of g.graph.ends e)) (name_of g.vertex_names (head_of g.graph.ends e)) (length_of g e)))
+
 zero_outer_pairs : (names : List ℤ) (o : Option ℕ) → map entry_at_zero (outer_pairs names o) ≡ outer_pairs names o
 zero_outer_pairs names None = refl
 zero_outer_pairs names (Some d) = refl
@@ -117,7 +132,7 @@ zero_written g =
     let ns = map (written_node g) (range_with_len 0 g.graph.vertices) in
     let es = map (written_edge g) (range_with_len 0 (length g.graph.ends)) in
     let parts : map entry_at_zero (map (written_node g) (range_with_len 0 g.graph.vertices) ++ map (written_edge g) (range_with_len 0 (length g.graph.ends))) ≡ map (written_node g) (range_with_len 0 g.graph.vertices) ++ map (written_edge g) (range_with_len 0 (length g.graph.ends)) =
-    zero_append ns es (zero_map (written_node g) (zero_written_node g) (range_with_len 0 g.graph.vertices)) (zero_map (written_edge g) (λ e. refl) (range_with_len 0 (length g.graph.ends))) in
+    zero_append ns es (zero_map (written_node g) (zero_written_node g) (range_with_len 0 g.graph.vertices)) (zero_map (written_edge g) (zero_written_edge g) (range_with_len 0 (length g.graph.ends))) in
     ap (λ (l : List Entry). int_pair (codes "directed") (pos 1) ∷ l) (zero_append (outer_pairs g.edge_names g.outer) (ns ++ es) (zero_outer_pairs g.edge_names g.outer) parts)
 
 -- ---- what the pairs say
@@ -130,8 +145,14 @@ made_node z ms = record { at = 0; id = Some z; order = Some ms }
 abbrev node_of : InputGraph → ℕ → Node
 node_of g v = made_node (name_of g.vertex_names v) (map (mention_of g.edge_names) (get_or g.orders v []))
 
+abbrev minlen_said : ℕ → Option Minlen
+minlen_said n = cond (eqb n 1) None (Some (record { rows = pos n; at = 0 }))
+
+abbrev made_edge : ℤ → ℤ → ℤ → Option Minlen → Edge
+made_edge a b c o = record { id = Some a; source = Some b; target = Some c; minlen = o }
+
 abbrev edge_said : InputGraph → ℕ → Edge
-edge_said g e = record { id = Some (name_of g.edge_names e); source = Some (name_of g.vertex_names (tail_of g.graph.ends e)); target = Some (name_of g.vertex_names (head_of g.graph.ends e)) }
+edge_said g e = made_edge (name_of g.edge_names e) (name_of g.vertex_names (tail_of g.graph.ends e)) (name_of g.vertex_names (head_of g.graph.ends e)) (minlen_said (length_of g e))
 
 abbrev outer_said : List ℤ → ℕ → Outer
 outer_said names d = record { at = 0; edge = Some (mention_of names (edge_of d)); side = Some (side_of d) }
@@ -149,6 +170,17 @@ node_says_it z (Some bs) names es = ap (λ (ms : List Mention). made_node z ms) 
 
 node_is : (g : InputGraph) (v : ℕ) → node_in (written_node g v) ≡ node_of g v
 node_is g v = ap (node_says 0) (listed_of (node_pairs g v)) ∙ node_says_it (name_of g.vertex_names v) (get_or g.labels v None) g.edge_names (get_or g.orders v [])
+
+-- what an edge says, with and without its length
+edge_says_it : (a b c : ℤ) (n : ℕ) → edge_says (int_pair (codes "id") a ∷ int_pair (codes "source") b ∷ int_pair (codes "target") c ∷ length_pairs n) ≡ made_edge a b c (minlen_said n)
+edge_says_it a b c n = by (eqb n 1)
+  where
+    by : (t : Bool) → edge_says (int_pair (codes "id") a ∷ int_pair (codes "source") b ∷ int_pair (codes "target") c ∷ cond t [] (int_pair (codes "minlen") (pos n) ∷ [])) ≡ made_edge a b c (cond t None (Some (record { rows = pos n; at = 0 })))
+    by true = refl
+    by false = refl
+
+edge_is : (g : InputGraph) (e : ℕ) → edge_in (written_edge g e) ≡ edge_said g e
+edge_is g e = ap edge_says (listed_of (edge_pairs g e)) ∙ edge_says_it (name_of g.edge_names e) (name_of g.vertex_names (tail_of g.graph.ends e)) (name_of g.vertex_names (head_of g.graph.ends e)) (length_of g e)
 
 shown_byte_same : (b : ℕ) → IsShownByte b → shown_byte b ≡ b
 shown_byte_same b p = grind (arith, nat_tests, p.0, p.1)
@@ -235,7 +267,7 @@ labels_are g I = each_written (codes "node") label_in g refl refl
 edges_are : (g : InputGraph) → each (codes "edge") edge_in (written_pairs g) ≡ map (edge_said g) (all_edges g)
 edges_are g = each_written (codes "edge") edge_in g refl refl
     ∙ ap (λ (l : List Edge). l ++ each (codes "edge") edge_in (map (written_edge g) (all_edges g))) (each_other (codes "edge") edge_in (written_node g) (λ v. refl) (all_vertices g))
-    ∙ each_these (codes "edge") edge_in (written_edge g) (λ e. refl) (all_edges g)
+    ∙ each_these (codes "edge") edge_in (written_edge g) (λ e. refl) (all_edges g) ∙ map_all (λ e. edge_in (written_edge g e)) (edge_said g) (edge_is g) (all_edges g)
 
 no_paths : (g : InputGraph) → each (codes "path") path_in (written_pairs g) ≡ []
 no_paths g = each_written (codes "path") path_in g refl refl
@@ -283,6 +315,16 @@ node_says_right z (Some bs) names es = ap names_wrong (listed_of (map (name_pair
 node_right : (g : InputGraph) (v : ℕ) → part_wrong (written_node g v) ≡ None
 node_right g v = ap node_wrong (listed_of (node_pairs g v)) ∙ node_says_right (name_of g.vertex_names v) (get_or g.labels v None) g.edge_names (get_or g.orders v [])
 
+edge_says_right : (a b c : ℤ) (n : ℕ) → edge_wrong (int_pair (codes "id") a ∷ int_pair (codes "source") b ∷ int_pair (codes "target") c ∷ length_pairs n) ≡ None
+edge_says_right a b c n = by (eqb n 1)
+  where
+    by : (t : Bool) → edge_wrong (int_pair (codes "id") a ∷ int_pair (codes "source") b ∷ int_pair (codes "target") c ∷ cond t [] (int_pair (codes "minlen") (pos n) ∷ [])) ≡ None
+    by true = refl
+    by false = refl
+
+edge_right : (g : InputGraph) (e : ℕ) → part_wrong (written_edge g e) ≡ None
+edge_right g e = ap edge_wrong (listed_of (edge_pairs g e)) ∙ edge_says_right (name_of g.edge_names e) (name_of g.vertex_names (tail_of g.graph.ends e)) (name_of g.vertex_names (head_of g.graph.ends e)) (length_of g e)
+
 outer_right : (names : List ℤ) (o : Option ℕ) → (inside_of outer_wrong (outer_entry names o) ≡ None) × (earliest part_wrong (outer_pairs names o) ≡ None)
 outer_right names None = (refl, refl)
 outer_right names (Some d) = (refl, refl)
@@ -290,7 +332,7 @@ outer_right names (Some d) = (refl, refl)
 parts_right : (g : InputGraph) → earliest part_wrong (written_pairs g) ≡ None
 unfolding written_pairs
 parts_right g = earliest_append part_wrong (outer_pairs g.edge_names g.outer) (map (written_node g) (all_vertices g) ++ map (written_edge g) (all_edges g)) (outer_right g.edge_names g.outer).1
-    (earliest_append part_wrong (map (written_node g) (all_vertices g)) (map (written_edge g) (all_edges g)) (earliest_map part_wrong (written_node g) (node_right g) (all_vertices g)) (earliest_map part_wrong (written_edge g) (λ e. refl) (all_edges g)))
+    (earliest_append part_wrong (map (written_node g) (all_vertices g)) (map (written_edge g) (all_edges g)) (earliest_map part_wrong (written_node g) (node_right g) (all_vertices g)) (earliest_map part_wrong (written_edge g) (edge_right g) (all_edges g)))
 
 kinds_right : (g : InputGraph) → graph_wrong (written_pairs g) ≡ None
 kinds_right g =
@@ -361,6 +403,20 @@ no_id g before (e ∷ l) differ =
 end_known : (names : List ℤ) (i v : ℕ) → AreDifferent names → v < length names → unknown_end_fault names i (name_of names v) ≡ None
 end_known names i v differ lt = rw (number_known names v differ lt) refl
 
+-- a length is written so that it is read
+length_known : (n : ℕ) → IsLength n → (length_fault (minlen_said n) ≡ None) × (rows_of (minlen_said n) ≡ n)
+length_known n p = by (eqb n 1) refl
+  where
+    fits : is_length (pos n) ≡ true
+    fits = grind (arith, nat_tests, p.0, p.1)
+
+    by : (t : Bool) → eqb n 1 ≡ t → (length_fault (minlen_said n) ≡ None) × (rows_of (minlen_said n) ≡ n)
+    by true q = (rw q refl, rw q (sym (eqb-true n 1 q)))
+    by false q = (rw (q, fits) refl, rw q refl)
+
+length_at : (g : InputGraph) → IsConsistent g → (e : ℕ) → e < length g.graph.ends → IsLength (length_of g e)
+length_at g I e lt = I.rows e 1 (omega (arith, lt, I.lengths))
+
 no_end : (g : InputGraph) → IsConsistent g → HasEnds g.graph → (before : List Edge) (a k : ℕ) → a + k ≤ length g.graph.ends → first_fault (edge_fault g.vertex_names) before (map (edge_said g) (range_with_len a k)) ≡ None
 no_end g I E before a zero le = refl
 no_end g I E before a (suc k) le =
@@ -370,7 +426,8 @@ no_end g I E before a (suc k) le =
     let tail = end_known names (length before) (tail_of g.graph.ends a) I.different (omega (arith, ends.0, I.vertex_names)) in
     let head = end_known names (length before) (head_of g.graph.ends a) I.different (omega (arith, ends.1, I.vertex_names)) in
     none_or (edge_fault names before n) (first_fault (edge_fault names) (before ++ n ∷ []) (map (edge_said g) (range_with_len (a + 1) k)))
-    (none_or (unknown_end_fault names (length before) (name_of names (tail_of g.graph.ends a))) (unknown_end_fault names (length before) (name_of names (head_of g.graph.ends a))) tail head) (no_end g I E (before ++ n ∷ []) (a + 1) k (omega arith))
+    (none_or (ends_fault names (length before) n.source n.target) (length_fault n.minlen)
+    (none_or (unknown_end_fault names (length before) (name_of names (tail_of g.graph.ends a))) (unknown_end_fault names (length before) (name_of names (head_of g.graph.ends a))) tail head) (length_known (length_of g a) (length_at g I a (omega arith))).0) (no_end g I E (before ++ n ∷ []) (a + 1) k (omega arith))
 
 ids_clear : (g : InputGraph) → IsConsistent g → ids_fault (map (edge_said g) (all_edges g)) ≡ None
 ids_clear g I = rw (named g (all_edges g)) (no_id g [] (all_edges g) (subst AreDifferent (sym (names_all g.edge_names (length g.graph.ends) I.edge_names)) I.edges_different))
@@ -421,6 +478,12 @@ ends_are g I E =
     ∙ map_range (λ e. pair_in g.vertex_names (edge_said g e)) (λ e. get_or g.graph.ends e (0, 0)) 0 (length g.graph.ends) (length g.graph.ends) (omega arith) (pair_known g I E)
     ∙ sym (fill_by_all (λ e. get_or g.graph.ends e (0, 0)) g.graph.ends (length g.graph.ends) (0, 0) refl (λ k lt. refl))
 
+rows_are : (g : InputGraph) → IsConsistent g → lengths_in (map (edge_said g) (all_edges g)) ≡ g.lengths
+rows_are g I =
+    map_map length_in (edge_said g) (all_edges g)
+    ∙ map_range (λ e. length_in (edge_said g e)) (λ e. get_or g.lengths e 1) 0 (length g.graph.ends) (length g.graph.ends) (omega arith) (λ e lt. (length_known (length_of g e) (length_at g I e lt)).1)
+    ∙ sym (fill_by_all (λ e. get_or g.lengths e 1) g.lengths (length g.graph.ends) 1 I.lengths (λ k lt. refl))
+
 -- ---- the outer face
 edge_below : (d m : ℕ) → d < 2 * m → edge_of d < m
 unfolding edge_of
@@ -458,9 +521,9 @@ parts_clear g max_n max_m I E few_n few_m =
     let few_edges : length (map (edge_said g) (all_edges g)) ≤ max_m = omega (arith, size) in
     none_or _ _ nodes (none_or _ _ edges (none_or _ _ (ids_clear g I) (none_or _ _ orders (none_or _ _ outer (limits_clear (length ns) (length es) max_n max_m few_nodes few_edges)))))
 
-same_graph : (g : InputGraph) (n : ℕ) (ends : List (ℕ × ℕ)) (vs es : List ℤ) (os : List (List ℕ)) (o : Option ℕ) → g.paths ≡ [] → n ≡ g.graph.vertices → ends ≡ g.graph.ends → vs ≡ g.vertex_names → es ≡ g.edge_names → os ≡ g.orders → o ≡ g.outer
-    → made (record { vertices = n; ends = ends }) vs es g.labels os o [] ≡ g
-same_graph g n ends vs es os o p e0 e1 e2 e3 e4 e5 = rw (e0, e1, e2, e3, e4, e5, sym p) refl
+same_graph : (g : InputGraph) (n : ℕ) (ends : List (ℕ × ℕ)) (vs es : List ℤ) (ns : List ℕ) (os : List (List ℕ)) (o : Option ℕ) → g.paths ≡ [] → n ≡ g.graph.vertices → ends ≡ g.graph.ends → vs ≡ g.vertex_names → es ≡ g.edge_names → ns ≡ g.lengths → os ≡ g.orders → o ≡ g.outer
+    → made (record { vertices = n; ends = ends }) vs es ns g.labels os o [] ≡ g
+same_graph g n ends vs es ns os o p e0 e1 e2 e3 e4 e5 e6 = rw (e0, e1, e2, e3, e4, e5, e6, sym p) refl
 
 parts_graph : (g : InputGraph) → IsConsistent g → HasEnds g.graph → g.paths ≡ [] → embedded_in (parts_of g) ≡ g
 parts_graph g I E p =
@@ -473,7 +536,7 @@ parts_graph g I E p =
     let orders : full_orders (edge_names (map (edge_said g) (all_edges g))) (ends_in (node_names (map (node_of g) (all_vertices g))) (map (edge_said g) (all_edges g))) (map (node_of g) (all_vertices g)) ≡ g.orders =
     rw ids (orders_are g I (ends_in (node_names ns) es)) in
     let outer : outer_end (edge_names (map (edge_said g) (all_edges g))) (outer_option g.edge_names g.outer) ≡ g.outer = rw ids (outer_known g.edge_names g.outer I.edges_different (subst (λ k. IfSome g.outer (λ d. d < 2 * k)) (sym I.edge_names) I.outer)).1 in
-    same_graph g (length ns) (ends_in (node_names ns) es) (node_names ns) (edge_names es) (full_orders (edge_names es) (ends_in (node_names ns) es) ns) (outer_end (edge_names es) (outer_option g.edge_names g.outer)) p count ends names ids orders outer
+    same_graph g (length ns) (ends_in (node_names ns) es) (node_names ns) (edge_names es) (lengths_in es) (full_orders (edge_names es) (ends_in (node_names ns) es) ns) (outer_end (edge_names es) (outer_option g.edge_names g.outer)) p count ends names ids (rows_are g I) orders outer
 
 inner_back : (g : InputGraph) (at max_n max_m : ℕ) (es : Entries) → IsConsistent g → HasEnds g.graph → g.paths ≡ [] → g.graph.vertices ≤ max_n → length g.graph.ends ≤ max_m → map entry_at_zero (listed es) ≡ written_pairs g
     → (shape_fault (more (entry (codes "graph") at (list es)) none) max_n max_m ≡ None) × (embedded_graph (more (entry (codes "graph") at (list es)) none) ≡ Some g)

@@ -1,6 +1,6 @@
 -- The written tree, pair by pair: what is appended, and that its lists nest three deep.
 -- Letters: g graph, v vertex, e edge, es pairs, xs the same as a list.
-use Rattle.std.proofs.Common.{◌≡◌, ◌<◌, ◌≤◌, ◌+◌, ◌*◌, ◌^◌, ℕ, zero, suc, ℤ, pos, List, [], ◌∷◌, ◌++◌, length, map, get_or, slice_get, refl, ap, sym, subst, ◌∙◌, append_assoc, arith, codes, Option, None, Some, All}
+use Rattle.std.proofs.Common.{◌≡◌, ◌<◌, ◌≤◌, ◌+◌, ◌*◌, ◌^◌, ℕ, zero, suc, ℤ, pos, Bool, true, false, cond, eqb, List, [], ◌∷◌, ◌++◌, length, map, get_or, slice_get, refl, ap, sym, subst, ◌∙◌, append_assoc, arith, codes, Option, None, Some, All}
 use Rattle.std.specs.List.{range_with_len}
 use Rattle.std.proofs.lemmas.List.{length-append, length-map, get_or-map, same_lists}
 use Rattle.std.proofs.lemmas.List.FromFn.{get_or-map-range_with_len, length-map-range_with_len, map-range_with_len_more}
@@ -16,7 +16,7 @@ use Rattle.st_input.specs.InputGraph.{InputGraph, IsConsistent, AreListed}
 use Rattle.st_input.specs.Plain.{int_pair, node_pair, edge_pair, graph_pairs, plain_entries}
 use Rattle.st_input.specs.declared.written.Extent.{Extent}
 use Rattle.st_input.specs.declared.written.Extent.TheVariants.{Plain, Whole}
-use Rattle.st_input.specs.Written.{name_pair, order_pair, label_pairs, rest_pairs, vertex_pairs, node_by, arc_pairs, edge_by, end_pairs, outer_pairs, outer_by, pairs_by, entries_by, written_pairs, written_entries, HasNoQuote, IsWritable, CanBeWritten, with_ends}
+use Rattle.st_input.specs.Written.{name_pair, order_pair, label_pairs, length_of, length_pairs, rest_pairs, vertex_pairs, node_by, arc_pairs, edge_by, end_pairs, outer_pairs, outer_by, pairs_by, entries_by, written_pairs, written_entries, HasNoQuote, IsWritable, CanBeWritten, with_ends}
 use Rattle.st_input.proofs.PlainLemmas.{listed_push, entries_listed}
 
 -- ---- what `graph` holds, pair by pair
@@ -86,9 +86,16 @@ node_depth x g v t e = let d = depth_by 1 t (vertex_pairs x g v) e (vertex_shall
 node_by_depth : (x : Extent) (g : InputGraph) (v : ℕ) → entry_depth (node_by x g v) ≤ 2
 node_by_depth x g v = let d = shallow_entries 1 (vertex_pairs x g v) (vertex_shallow x g v) in omega (arith, d)
 
+length_shallow : (n : ℕ) → AreShallow 0 (length_pairs n)
+length_shallow n = by (eqb n 1)
+  where
+    by : (b : Bool) → AreShallow 0 (cond b [] (int_pair (codes "minlen") (pos n) ∷ []))
+    by true = tt
+    by false = (omega arith, tt)
+
 arc_shallow : (x : Extent) (g : InputGraph) (e : ℕ) → AreShallow 0 (arc_pairs x g e)
 arc_shallow Plain g e = (omega arith, (omega arith, tt))
-arc_shallow Whole g e = (omega arith, (omega arith, (omega arith, tt)))
+arc_shallow Whole g e = (omega arith, (omega arith, (omega arith, length_shallow (length_of g e))))
 
 pub edge_depth : (x : Extent) (g : InputGraph) (e : ℕ) (t : Entries) → listed t ≡ arc_pairs x g e → depth t ≤ 31
 edge_depth x g e t q = let d = depth_by 0 t (arc_pairs x g e) q (arc_shallow x g e) in omega (arith, d)
@@ -218,6 +225,8 @@ ends_fit g h d I n m lt = record {
   few_edges = subst (λ k. k < 2 ^ 30) (sym m) I.few_edges;
   vertex_names = I.vertex_names ∙ sym n;
   edge_names = I.edge_names ∙ sym m;
+  lengths = I.lengths ∙ sym m;
+  rows = I.rows;
   labels = I.labels ∙ sym n;
   orders = I.orders ∙ sym n;
   different = I.different;

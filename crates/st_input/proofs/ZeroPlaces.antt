@@ -1,7 +1,7 @@
 -- What a text says does not depend on the places of its pairs, but for the places themselves: a text whose places are set
 -- to 0 has a fault where the text has one, and has the same graph.
 -- Letters: xs pairs, k key, m mention, n node, o outer face, p parts.
-use Rattle.std.proofs.Common.{◌≡◌, ◌+◌, ℕ, ℤ, Bool, true, false, cond, List, [], ◌∷◌, ◌++◌, length, map, refl, ap, subst, ◌∙◌, codes, Option, None, Some}
+use Rattle.std.proofs.Common.{◌≡◌, ◌+◌, ℕ, ℤ, Bool, true, false, cond, List, [], ◌∷◌, ◌++◌, length, map, refl, ap, sym, subst, ◌∙◌, codes, Option, None, Some}
 use Rattle.std.specs.Prelude.{bytes_eq, is_some, pos}
 use Rattle.std.specs.Option.{option_map, unwrap_or}
 use Rattle.std.proofs.lemmas.List.{length-map}
@@ -9,16 +9,19 @@ use Rattle.gml_core.specs.Trees.{int, real, str, atom, list, Entry, entry, Entri
 use Rattle.gml_core.specs.Printing.{at_zero, entry_at_zero, datum_at_zero}
 use Rattle.st_parts.specs.Used.{place_of, datum_of, first_with, each, int_in, str_in, list_in, int_of, str_of, list_of, first_int, first_str, first_list}
 use Rattle.st_parts.specs.Kinds.{earlier, earliest, wrong, wrong_of, first_wrong, name_wrong_of, names_wrong, inside, inside_of, first_inside, node_wrong, edge_wrong, outer_wrong, part_wrong, graph_wrong}
-use Rattle.st_parts.specs.Parts.{shown_label, pairs_in, name_in, mention_in, mentions_in, names_in, label_says, node_in, label_in, edge_in, outer_in, path_in, parts_say}
+use Rattle.st_parts.specs.Parts.{shown_label, pairs_in, name_in, mention_in, mentions_in, names_in, minlen_in, minlen_of, label_says, node_in, label_in, edge_in, outer_in, path_in, parts_say}
 use Rattle.st_input.specs.Names.{number_of}
-use Rattle.st_input.specs.Faults.{or_else, first_fault, node_name, node_names, name_fault, node_fault, edge_fault, ids_fault, edge_names, mention_fault, order_fault, written_fault, orders_fault, edges_in, ends_in}
+use Rattle.st_input.specs.Faults.{or_else, first_fault, node_name, node_names, name_fault, node_fault, ends_fault, is_length, length_fault, edge_fault, rows_of, length_in, lengths_in, pair_in, same_fault, id_fault, ids_fault, all_named, edge_id, edge_ids, edge_names, mention_fault, order_fault, written_fault, orders_fault, edges_in, ends_in}
 use Rattle.st_input.specs.Faults.{edge_number}
 use Rattle.st_input.specs.Orders.{order_from, orders_from, full_orders}
 use Rattle.st_input.specs.Embedding.{written_end, outer_end, embedded_in}
 use Rattle.st_input.specs.FirstFault.{is_side, side_fault, outer_fault, limits_fault, parts_fault}
-use Rattle.st_input.specs.declared.fault.ShapeFault.TheVariants.{BadOuter, UnknownEdge}
+use Rattle.st_input.specs.declared.fault.ShapeFault.{ShapeFault}
+use Rattle.st_input.specs.declared.fault.ShapeFault.TheVariants.{BadLength, BadOuter, UnknownEdge}
 use Rattle.st_parts.specs.declared.parts.Mention.{Mention}
 use Rattle.st_parts.specs.declared.parts.Node.{Node}
+use Rattle.st_parts.specs.declared.parts.Minlen.{Minlen}
+use Rattle.st_parts.specs.declared.parts.Edge.{Edge}
 use Rattle.st_parts.specs.declared.parts.Outer.{Outer}
 use Rattle.st_parts.specs.declared.parts.Parts.{Parts}
 use Rattle.st_input.proofs.FitLemmas.{or_none}
@@ -31,11 +34,17 @@ zero_mention m = record { at = 0; name = m.name }
 abbrev pub zero_node : Node → Node
 zero_node n = record { at = 0; id = n.id; order = option_map (λ (ms : List Mention). map zero_mention ms) n.order }
 
+abbrev pub zero_minlen : Minlen → Minlen
+zero_minlen m = record { rows = m.rows; at = 0 }
+
+abbrev pub zero_edge : Edge → Edge
+zero_edge e = record { id = e.id; source = e.source; target = e.target; minlen = option_map zero_minlen e.minlen }
+
 abbrev pub zero_outer : Outer → Outer
 zero_outer o = record { at = 0; edge = option_map zero_mention o.edge; side = o.side }
 
 abbrev pub zero_parts : Parts → Parts
-zero_parts p = record { nodes = map zero_node p.nodes; labels = p.labels; edges = p.edges; outer = option_map zero_outer p.outer; paths = p.paths }
+zero_parts p = record { nodes = map zero_node p.nodes; labels = p.labels; edges = map zero_edge p.edges; outer = option_map zero_outer p.outer; paths = p.paths }
 
 -- ---- pairs
 pub zero_listed : (es : Entries) → listed (at_zero es) ≡ map entry_at_zero (listed es)
@@ -143,8 +152,21 @@ zero_node_in e =
 zero_label_in : (e : Entry) → label_in (entry_at_zero e) ≡ label_in e
 zero_label_in e = ap label_says (zero_pairs e) ∙ ap shown_label (zero_first_str (codes "label") (pairs_in e))
 
-zero_edge_in : (e : Entry) → edge_in (entry_at_zero e) ≡ edge_in e
-zero_edge_in e = rw (zero_pairs e, zero_first_int (codes "id") (pairs_in e), zero_first_int (codes "source") (pairs_in e), zero_first_int (codes "target") (pairs_in e)) refl
+zero_minlen_in : (e : Entry) → minlen_in (entry_at_zero e) ≡ option_map zero_minlen (minlen_in e)
+zero_minlen_in (entry j at (atom (int z))) = refl
+zero_minlen_in (entry j at (atom (real bs))) = refl
+zero_minlen_in (entry j at (atom (str bs))) = refl
+zero_minlen_in (entry j at (list es)) = refl
+
+zero_minlen_of : (o : Option Entry) → minlen_of (option_map entry_at_zero o) ≡ option_map zero_minlen (minlen_of o)
+zero_minlen_of None = refl
+zero_minlen_of (Some e) = zero_minlen_in e
+
+zero_edge_in : (e : Entry) → edge_in (entry_at_zero e) ≡ zero_edge (edge_in e)
+zero_edge_in e =
+    let xs = pairs_in e in
+    let minlen : minlen_of (first_with (codes "minlen") (map entry_at_zero (pairs_in e))) ≡ option_map zero_minlen (minlen_of (first_with (codes "minlen") (pairs_in e))) = ap minlen_of (zero_first (codes "minlen") xs) ∙ zero_minlen_of (first_with (codes "minlen") xs) in
+    rw (zero_pairs e, zero_first_int (codes "id") xs, zero_first_int (codes "source") xs, zero_first_int (codes "target") xs, minlen) refl
 
 zero_path_in : (e : Entry) → path_in (entry_at_zero e) ≡ path_in e
 zero_path_in e = ap names_in (zero_pairs e) ∙ same_each (codes "e") name_in zero_name (pairs_in e)
@@ -163,7 +185,7 @@ zero_outer_in e =
 pub zero_parts_say : (xs : List Entry) → parts_say (map entry_at_zero xs) ≡ zero_parts (parts_say xs)
 zero_parts_say xs =
     let outer : option_map outer_in (first_with (codes "outer") (map entry_at_zero xs)) ≡ option_map zero_outer (option_map outer_in (first_with (codes "outer") xs)) = ap (option_map outer_in) (zero_first (codes "outer") xs) ∙ by (first_with (codes "outer") xs) in
-    rw (zero_each (codes "node") node_in zero_node zero_node_in xs, same_each (codes "node") label_in zero_label_in xs, same_each (codes "edge") edge_in zero_edge_in xs, outer, same_each (codes "path") path_in zero_path_in xs) refl
+    rw (zero_each (codes "node") node_in zero_node zero_node_in xs, same_each (codes "node") label_in zero_label_in xs, zero_each (codes "edge") edge_in zero_edge zero_edge_in xs, outer, same_each (codes "path") path_in zero_path_in xs) refl
   where
     by : (o : Option Entry) → option_map outer_in (option_map entry_at_zero o) ≡ option_map zero_outer (option_map outer_in o)
     by None = refl
@@ -223,7 +245,7 @@ clear_node_wrong : (xs : List Entry) → node_wrong (map entry_at_zero xs) ≡ N
 clear_node_wrong xs h = clear_both _ _ _ _ (clear_first_wrong (codes "id") xs) (clear_first_inside names_wrong clear_names (codes "order") xs) h
 
 clear_edge_wrong : (xs : List Entry) → edge_wrong (map entry_at_zero xs) ≡ None → edge_wrong xs ≡ None
-clear_edge_wrong xs h = clear_both _ _ _ _ (clear_first_wrong (codes "id") xs) (λ q. clear_both _ _ _ _ (clear_first_wrong (codes "source") xs) (clear_first_wrong (codes "target") xs) q) h
+clear_edge_wrong xs h = clear_both _ _ _ _ (clear_first_wrong (codes "id") xs) (λ q. clear_both _ _ _ _ (clear_first_wrong (codes "source") xs) (λ r. clear_both _ _ _ _ (clear_first_wrong (codes "target") xs) (clear_first_wrong (codes "minlen") xs) r) q) h
 
 clear_outer_wrong : (xs : List Entry) → outer_wrong (map entry_at_zero xs) ≡ None → outer_wrong xs ≡ None
 clear_outer_wrong xs h = clear_both _ _ _ _ (clear_first_wrong (codes "edge") xs) (clear_first_wrong (codes "side") xs) h
@@ -247,9 +269,9 @@ zero_names : (ns : List Node) → node_names (map zero_node ns) ≡ node_names n
 zero_names [] = refl
 zero_names (n ∷ ns) = ap (λ (l : List ℤ). node_name n ∷ l) (zero_names ns)
 
-zero_push : (ns : List Node) (n : Node) → map zero_node ns ++ zero_node n ∷ [] ≡ map zero_node (ns ++ n ∷ [])
-zero_push [] n = refl
-zero_push (m ∷ ns) n = ap (λ (l : List Node). zero_node m ∷ l) (zero_push ns n)
+zero_push : {A : Type 0} (zero_it : A → A) (xs : List A) (x : A) → map zero_it xs ++ zero_it x ∷ [] ≡ map zero_it (xs ++ x ∷ [])
+zero_push zero_it [] x = refl
+zero_push {A} zero_it (y ∷ xs) x = ap (λ (l : List A). zero_it y ∷ l) (zero_push zero_it xs x)
 
 clear_id : (before : List ℤ) (at : ℕ) (id : Option ℤ) → name_fault before 0 id ≡ None → name_fault before at id ≡ None
 clear_id before at None h = absurd (cc)
@@ -260,8 +282,48 @@ clear_nodes before [] h = refl
 clear_nodes before (n ∷ ns) h =
     let both = or_none (node_fault (map zero_node before) (zero_node n)) (first_fault node_fault (map zero_node before ++ zero_node n ∷ []) (map zero_node ns)) h in
     let here : node_fault before n ≡ None = clear_id (node_names before) n.at n.id (subst (λ (l : List ℤ). name_fault l 0 n.id ≡ None) (zero_names before) both.0) in
-    let rest : first_fault node_fault (before ++ n ∷ []) ns ≡ None = clear_nodes (before ++ n ∷ []) ns (subst (λ (l : List Node). first_fault node_fault l (map zero_node ns) ≡ None) (zero_push before n) both.1) in
+    let rest : first_fault node_fault (before ++ n ∷ []) ns ≡ None = clear_nodes (before ++ n ∷ []) ns (subst (λ (l : List Node). first_fault node_fault l (map zero_node ns) ≡ None) (zero_push zero_node before n) both.1) in
     rw (here, rest) refl
+
+clear_length : (o : Option Minlen) → length_fault (option_map zero_minlen o) ≡ None → length_fault o ≡ None
+clear_length None h = refl
+clear_length (Some m) h = by (is_length m.rows) h
+  where
+    by : (b : Bool) → cond b None (Some (BadLength 0)) ≡ None → cond b None (Some (BadLength m.at)) ≡ None
+    by true h = refl
+    by false h = absurd (cc)
+
+clear_edges : (vertices : List ℤ) (before es : List Edge) → first_fault (edge_fault vertices) (map zero_edge before) (map zero_edge es) ≡ None → first_fault (edge_fault vertices) before es ≡ None
+clear_edges vertices before [] h = refl
+clear_edges vertices before (e ∷ es) h =
+    let both = or_none (edge_fault vertices (map zero_edge before) (zero_edge e)) (first_fault (edge_fault vertices) (map zero_edge before ++ zero_edge e ∷ []) (map zero_edge es)) h in
+    let parts = or_none (ends_fault vertices (length (map zero_edge before)) e.source e.target) (length_fault (option_map zero_minlen e.minlen)) both.0 in
+    let ends : ends_fault vertices (length before) e.source e.target ≡ None = subst (λ (k : ℕ). ends_fault vertices k e.source e.target ≡ None) (length-map before zero_edge) parts.0 in
+    let here : edge_fault vertices before e ≡ None = none_or (ends_fault vertices (length before) e.source e.target) (length_fault e.minlen) ends (clear_length e.minlen parts.1) in
+    let rest : first_fault (edge_fault vertices) (before ++ e ∷ []) es ≡ None = clear_edges vertices (before ++ e ∷ []) es (subst (λ (l : List Edge). first_fault (edge_fault vertices) l (map zero_edge es) ≡ None) (zero_push zero_edge before e) both.1) in
+    none_or (edge_fault vertices before e) (first_fault (edge_fault vertices) (before ++ e ∷ []) es) here rest
+
+zero_all_named : (es : List Edge) → all_named (map zero_edge es) ≡ all_named es
+zero_all_named [] = refl
+zero_all_named (e ∷ es) = ap (λ (b : Bool). cond (is_some e.id) b false) (zero_all_named es)
+
+zero_edge_ids : (es : List Edge) → edge_ids (map zero_edge es) ≡ edge_ids es
+zero_edge_ids [] = refl
+zero_edge_ids (e ∷ es) = ap (λ (l : List ℤ). edge_id e ∷ l) (zero_edge_ids es)
+
+zero_edge_names : (es : List Edge) → edge_names (map zero_edge es) ≡ edge_names es
+unfolding edge_names
+zero_edge_names es = rw (zero_all_named es, zero_edge_ids es, length-map es zero_edge) refl
+
+zero_id_fault : (before es : List Edge) → first_fault id_fault (map zero_edge before) (map zero_edge es) ≡ first_fault id_fault before es
+zero_id_fault before [] = refl
+zero_id_fault before (e ∷ es) =
+    ap (λ (l : List ℤ). or_else (same_fault l (edge_id e)) (first_fault id_fault (map zero_edge before ++ zero_edge e ∷ []) (map zero_edge es))) (zero_edge_ids before)
+    ∙ ap (λ (l : List Edge). or_else (id_fault before e) (first_fault id_fault l (map zero_edge es))) (zero_push zero_edge before e)
+    ∙ ap (λ (f : Option ShapeFault). or_else (id_fault before e) f) (zero_id_fault (before ++ e ∷ []) es)
+
+zero_ids_fault : (es : List Edge) → ids_fault (map zero_edge es) ≡ ids_fault es
+zero_ids_fault es = rw (zero_all_named es, zero_id_fault [] es) refl
 
 clear_mention : (names : List ℤ) (m : Mention) → mention_fault names (zero_mention m) ≡ None → mention_fault names m ≡ None
 clear_mention names m h = by (is_some (number_of names m.name)) h
@@ -303,18 +365,21 @@ clear_outer names (Some o) h = clear_side names o.at o.edge o.side h
 pub zero_faults : (p : Parts) (a b : ℕ) → parts_fault (zero_parts p) a b ≡ None → parts_fault p a b ≡ None
 zero_faults p a b h =
     let zs = map zero_node p.nodes in
-    let names = edge_names p.edges in
-    let h0 = or_none (first_fault node_fault [] zs) (or_else (first_fault (edge_fault (node_names zs)) [] p.edges) (or_else (ids_fault p.edges) (or_else (orders_fault names zs) (or_else (outer_fault names (option_map zero_outer p.outer)) (limits_fault (length zs) (length p.edges) a b))))) h in
-    let h1 = or_none (first_fault (edge_fault (node_names zs)) [] p.edges) (or_else (ids_fault p.edges) (or_else (orders_fault names zs) (or_else (outer_fault names (option_map zero_outer p.outer)) (limits_fault (length zs) (length p.edges) a b)))) h0.1 in
-    let h2 = or_none (ids_fault p.edges) (or_else (orders_fault names zs) (or_else (outer_fault names (option_map zero_outer p.outer)) (limits_fault (length zs) (length p.edges) a b))) h1.1 in
-    let h3 = or_none (orders_fault names zs) (or_else (outer_fault names (option_map zero_outer p.outer)) (limits_fault (length zs) (length p.edges) a b)) h2.1 in
-    let h4 = or_none (outer_fault names (option_map zero_outer p.outer)) (limits_fault (length zs) (length p.edges) a b) h3.1 in
+    let es = map zero_edge p.edges in
+    let names = edge_names es in
+    let last = limits_fault (length zs) (length es) a b in
+    let h0 = or_none (first_fault node_fault [] zs) (or_else (first_fault (edge_fault (node_names zs)) [] es) (or_else (ids_fault es) (or_else (orders_fault names zs) (or_else (outer_fault names (option_map zero_outer p.outer)) last)))) h in
+    let h1 = or_none (first_fault (edge_fault (node_names zs)) [] es) (or_else (ids_fault es) (or_else (orders_fault names zs) (or_else (outer_fault names (option_map zero_outer p.outer)) last))) h0.1 in
+    let h2 = or_none (ids_fault es) (or_else (orders_fault names zs) (or_else (outer_fault names (option_map zero_outer p.outer)) last)) h1.1 in
+    let h3 = or_none (orders_fault names zs) (or_else (outer_fault names (option_map zero_outer p.outer)) last) h2.1 in
+    let h4 = or_none (outer_fault names (option_map zero_outer p.outer)) last h3.1 in
+    let same : edge_names (map zero_edge p.edges) ≡ edge_names p.edges = zero_edge_names p.edges in
     let nodes : first_fault node_fault [] p.nodes ≡ None = clear_nodes [] p.nodes h0.0 in
-    let edges : first_fault (edge_fault (node_names p.nodes)) [] p.edges ≡ None = subst (λ (l : List ℤ). first_fault (edge_fault l) [] p.edges ≡ None) (zero_names p.nodes) h1.0 in
-    let ids : ids_fault p.edges ≡ None = h2.0 in
-    let orders : orders_fault (edge_names p.edges) p.nodes ≡ None = clear_orders (edge_names p.edges) p.nodes h3.0 in
-    let outer : outer_fault (edge_names p.edges) p.outer ≡ None = clear_outer (edge_names p.edges) p.outer h4.0 in
-    let limits : limits_fault (length p.nodes) (length p.edges) a b ≡ None = subst (λ k. limits_fault k (length p.edges) a b ≡ None) (length-map p.nodes zero_node) h4.1 in
+    let edges : first_fault (edge_fault (node_names p.nodes)) [] p.edges ≡ None = clear_edges (node_names p.nodes) [] p.edges (subst (λ (l : List ℤ). first_fault (edge_fault l) [] (map zero_edge p.edges) ≡ None) (zero_names p.nodes) h1.0) in
+    let ids : ids_fault p.edges ≡ None = sym (zero_ids_fault p.edges) ∙ h2.0 in
+    let orders : orders_fault (edge_names p.edges) p.nodes ≡ None = clear_orders (edge_names p.edges) p.nodes (subst (λ (l : List ℤ). orders_fault l (map zero_node p.nodes) ≡ None) same h3.0) in
+    let outer : outer_fault (edge_names p.edges) p.outer ≡ None = clear_outer (edge_names p.edges) p.outer (subst (λ (l : List ℤ). outer_fault l (option_map zero_outer p.outer) ≡ None) same h4.0) in
+    let limits : limits_fault (length p.nodes) (length p.edges) a b ≡ None = subst (λ k. limits_fault (length p.nodes) k a b ≡ None) (length-map p.edges zero_edge) (subst (λ k. limits_fault k (length (map zero_edge p.edges)) a b ≡ None) (length-map p.nodes zero_node) h4.1) in
     none_or _ _ nodes (none_or _ _ edges (none_or _ _ ids (none_or _ _ orders (none_or _ _ outer limits))))
 
 -- ---- the graph
@@ -343,6 +408,18 @@ zero_end names (Some o) = by o.edge o.side
     by (Some m) None = refl
     by (Some m) (Some s) = refl
 
+zero_ends : (vertices : List ℤ) (es : List Edge) → ends_in vertices (map zero_edge es) ≡ ends_in vertices es
+zero_ends vertices [] = refl
+zero_ends vertices (e ∷ es) = ap (λ (l : List (ℕ × ℕ)). pair_in vertices e ∷ l) (zero_ends vertices es)
+
+zero_rows : (o : Option Minlen) → rows_of (option_map zero_minlen o) ≡ rows_of o
+zero_rows None = refl
+zero_rows (Some m) = refl
+
+zero_lengths : (es : List Edge) → lengths_in (map zero_edge es) ≡ lengths_in es
+zero_lengths [] = refl
+zero_lengths (e ∷ es) = ap (λ (n : ℕ). n ∷ lengths_in (map zero_edge es)) (zero_rows e.minlen) ∙ ap (λ (l : List ℕ). length_in e ∷ l) (zero_lengths es)
+
 -- the graph is the same
 pub zero_graph : (p : Parts) → embedded_in (zero_parts p) ≡ embedded_in p
-zero_graph p = rw (zero_names p.nodes, length-map p.nodes zero_node, zero_full (edge_names p.edges) (ends_in (node_names p.nodes) p.edges) p.nodes, zero_end (edge_names p.edges) p.outer) refl
+zero_graph p = rw (zero_names p.nodes, length-map p.nodes zero_node, zero_edge_names p.edges, zero_ends (node_names p.nodes) p.edges, zero_lengths p.edges, zero_full (edge_names p.edges) (ends_in (node_names p.nodes) p.edges) p.nodes, zero_end (edge_names p.edges) p.outer) refl

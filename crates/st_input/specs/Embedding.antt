@@ -6,7 +6,7 @@ use Rattle.std.specs.Prelude.{◌+◌, ◌*◌, ℕ, ℤ, nat_abs, List, length,
 use Rattle.gml_core.specs.Trees.{Entry, Entries, listed}
 use Rattle.st_parts.specs.Used.{first_with}
 use Rattle.st_parts.specs.Parts.{parts_in}
-use Rattle.st_input.specs.Faults.{node_names, edge_names, ends_in, edge_number}
+use Rattle.st_input.specs.Faults.{node_names, edge_names, ends_in, lengths_in, edge_number}
 use Rattle.st_input.specs.Orders.{full_orders}
 use Rattle.st_input.specs.InputGraph.{InputGraph}
 use Rattle.st_parts.specs.declared.parts.Mention.{Mention}
@@ -28,6 +28,7 @@ embedded_in p = record {
   graph = record { vertices = length p.nodes; ends = ends_in (node_names p.nodes) p.edges };
   vertex_names = node_names p.nodes;
   edge_names = edge_names p.edges;
+  lengths = lengths_in p.edges;
   labels = p.labels;
   orders = full_orders (edge_names p.edges) (ends_in (node_names p.nodes) p.edges) p.nodes;
   outer = outer_end (edge_names p.edges) p.outer;

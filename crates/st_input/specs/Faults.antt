@@ -1,19 +1,23 @@
 -- What may be wrong with the nodes, edges and orders of a graph.
 --   or_else a b                   the one fault, or else the other
---   first_fault fault before xs   the fault of the first item that has one; what is wrong with an item may depend on those before it
+--   first_fault fault before xs   the fault of the first item that has one; what is wrong with an item may depend on those
+--                                 before it
 --   FailsBy fault result          an error of the call, but for want of memory, is this fault
---   node_fault, edge_fault, id_fault   what is wrong with a node, with the ends of an edge, with the name of an edge
+--   node_fault, edge_fault, id_fault   what is wrong with a node, with the ends or the length of an edge, with its name
 --   edge_names es                 the names of the edges: the ids where each edge has one, else the positions
 --   orders_fault names ns         the first name in a written order that is no edge's
 --   ends_in vertices es           the tail and the head of each edge, by number
-use Rattle.std.specs.Prelude.{◌≡◌, ◌≢◌, ℕ, ℤ, pos, Bool, true, false, List, [], ◌∷◌, ◌++◌, map, length, Option, None, Some, Result, IfErr, if◌then◌else◌, is_some}
+--   lengths_in es                 the length of each edge: the written one, else 1
+use Rattle.std.specs.Prelude.{◌≡◌, ◌≢◌, ℕ, ℤ, pos, Bool, true, false, List, [], ◌∷◌, ◌++◌, map, length, Option, None, Some, Result, IfErr, if◌then◌else◌, is_some, ◌&&◌, int_le, nat_abs}
 use Rattle.std.specs.Option.{unwrap_or, option_and_then}
+use Rattle.st_ids.specs.declared.limits.TheConstants.{MOST_LENGTH}
 use Rattle.st_input.specs.Names.{is_among, number_of, positions}
 use Rattle.st_parts.specs.declared.parts.Mention.{Mention}
 use Rattle.st_parts.specs.declared.parts.Node.{Node}
+use Rattle.st_parts.specs.declared.parts.Minlen.{Minlen}
 use Rattle.st_parts.specs.declared.parts.Edge.{Edge}
 use Rattle.st_input.specs.declared.fault.ShapeFault.{ShapeFault}
-use Rattle.st_input.specs.declared.fault.ShapeFault.TheVariants.{NoId, SameId, NoEnd, UnknownEnd, SameEdgeId, UnknownEdge, NoMemory}
+use Rattle.st_input.specs.declared.fault.ShapeFault.TheVariants.{NoId, SameId, NoEnd, UnknownEnd, BadLength, SameEdgeId, UnknownEdge, NoMemory}
 
 -- the one, or else the other
 abbrev pub or_else : {A : Type 0} → Option A → Option A → Option A
@@ -44,7 +48,7 @@ name_fault before at (Some name) = if is_among before name then Some (SameId nam
 abbrev pub node_fault : List Node → Node → Option ShapeFault
 node_fault before n = name_fault (node_names before) n.at n.id
 
--- ---- the ends of edges
+-- ---- the ends and the lengths of edges
 -- the source or the target of edge i names no vertex
 abbrev pub unknown_end_fault : List ℤ → ℕ → ℤ → Option ShapeFault
 unknown_end_fault vertices i name = if is_some (number_of vertices name) then None else Some (UnknownEnd i name)
@@ -54,8 +58,20 @@ abbrev pub ends_fault : List ℤ → ℕ → Option ℤ → Option ℤ → Optio
 ends_fault vertices i (Some s) (Some t) = or_else (unknown_end_fault vertices i s) (unknown_end_fault vertices i t)
 ends_fault vertices i s t = Some (NoEnd i)
 
+-- from 1 to the greatest least length
+abbrev pub is_length : ℤ → Bool
+is_length rows = int_le (pos 1) rows && int_le rows (pos MOST_LENGTH)
+
+abbrev pub length_fault : Option Minlen → Option ShapeFault
+length_fault None = None
+length_fault (Some m) = if is_length m.rows then None else Some (BadLength m.at)
+
+-- edge i has a fault of its ends, or else of its length
+abbrev pub arc_fault : List ℤ → ℕ → Edge → Option ShapeFault
+arc_fault vertices i e = or_else (ends_fault vertices i e.source e.target) (length_fault e.minlen)
+
 abbrev pub edge_fault : List ℤ → List Edge → Edge → Option ShapeFault
-edge_fault vertices before e = ends_fault vertices (length before) e.source e.target
+edge_fault vertices before e = arc_fault vertices (length before) e
 
 -- the number of the vertex with a name
 abbrev pub vertex_in : List ℤ → Option ℤ → ℕ
@@ -66,6 +82,17 @@ pair_in vertices e = (vertex_in vertices e.source, vertex_in vertices e.target)
 
 abbrev pub ends_in : List ℤ → List Edge → List (ℕ × ℕ)
 ends_in vertices es = map (pair_in vertices) es
+
+-- the written length, else 1
+abbrev pub rows_of : Option Minlen → ℕ
+rows_of None = 1
+rows_of (Some m) = nat_abs m.rows
+
+abbrev pub length_in : Edge → ℕ
+length_in e = rows_of e.minlen
+
+abbrev pub lengths_in : List Edge → List ℕ
+lengths_in es = map length_in es
 
 -- ---- the names of edges
 abbrev pub edge_id : Edge → ℤ

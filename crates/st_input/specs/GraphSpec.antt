@@ -10,6 +10,7 @@ graph_view a = record {
   graph = a.graph;
   vertex_names = a.names.vertex;
   edge_names = a.names.edge;
+  lengths = a.lengths;
   labels = a.names.label;
   orders = a.orders;
   outer = option_map (λ (d : Dart). d.0) a.outer;

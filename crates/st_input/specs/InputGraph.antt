@@ -1,4 +1,4 @@
--- A graph as a file gives it: a digraph with its names, labels, orders, outer end and paths.
+-- A graph as a file gives it: a digraph with its names, lengths, labels, orders, outer end and paths.
 --   InputGraph             the value of a `GraphSpec`
 --   IsConsistent g         its tables fit together
 --   AreListed g orders     every listed edge is there
@@ -8,6 +8,7 @@
 use Rattle.std.specs.Prelude.{◌≡◌, ◌<◌, ◌≤◌, ◌*◌, ◌^◌, ℕ, ℤ, List, [], length, Option, Some, slice_get, slice_index_or, All, IfSome}
 use Rattle.st_ids.specs.Graph.{Graph}
 use Rattle.st_ids.specs.Lists.{In}
+use Rattle.st_ids.specs.Lengths.{IsLength}
 use Rattle.st_input.specs.Names.{AreDifferent}
 
 pub record InputGraph : Type 0 where
@@ -15,6 +16,8 @@ pub record InputGraph : Type 0 where
   -- the name of each vertex and of each edge
   pub vertex_names : List ℤ
   pub edge_names : List ℤ
+  -- the least length of each edge
+  pub lengths : List ℕ
   -- the shown label of each vertex that has one
   pub labels : List (Option (List ℕ))
   -- the edges at each vertex, clockwise
@@ -46,6 +49,8 @@ pub record IsConsistent (g : InputGraph) : Type 0 where
   pub few_edges : length g.graph.ends < 2 ^ 30
   pub vertex_names : length g.vertex_names ≡ g.graph.vertices
   pub edge_names : length g.edge_names ≡ length g.graph.ends
+  pub lengths : length g.lengths ≡ length g.graph.ends
+  pub rows : All IsLength g.lengths
   pub labels : length g.labels ≡ g.graph.vertices
   pub orders : length g.orders ≡ g.graph.vertices
   pub different : AreDifferent g.vertex_names

@@ -3,12 +3,15 @@
 --   KeepsLimits    a graph that is accepted is within the limits
 --   ReadsBack      the file of a plain graph is read again as that graph, whatever the places of its pairs
 --   ReadIsWritable   the graph of a sound text within limits can be written
+--   LengthsDefault   where no edge has a least length, each has the length 1
 --   WrittenReadsBack   so is the file of any graph without written paths, with all that the graph has
-use Rattle.std.specs.Prelude.{◌≡◌, ◌+◌, ◌<◌, ◌≤◌, ◌^◌, ℕ, [], length, None, Some}
+use Rattle.std.specs.Prelude.{◌≡◌, ◌+◌, ◌<◌, ◌≤◌, ◌^◌, ℕ, [], length, replicate, slice_get, codes, true, None, Some}
 use Rattle.st_ids.specs.Graph.{Graph, HasEnds}
-use Rattle.gml_core.specs.Trees.{Entries}
+use Rattle.gml_core.specs.Trees.{Entry, Entries, listed}
 use Rattle.gml_core.specs.Printing.{at_zero}
 use Rattle.gml_core.specs.Sound.{IsSound}
+use Rattle.st_parts.specs.Used.{has_key, first_with}
+use Rattle.st_parts.specs.Parts.{pairs_in}
 use Rattle.st_input.specs.InputGraph.{InputGraph, IsConsistent}
 use Rattle.st_input.specs.Embedding.{embedded_graph}
 use Rattle.st_input.specs.FirstFault.{shape_fault}
@@ -22,6 +25,14 @@ FitsTogether = (text : Entries) (max_n max_m : ℕ) (g : InputGraph) → max_n <
 -- the graph of a text without a fault has no more vertices and edges than the limits
 abbrev pub KeepsLimits : Type 0
 KeepsLimits = (text : Entries) (max_n max_m : ℕ) (g : InputGraph) → shape_fault text max_n max_m ≡ None → embedded_graph text ≡ Some g → (g.graph.vertices ≤ max_n) × (length g.graph.ends ≤ max_m)
+
+-- no edge of the graph of a text has the key `minlen`
+abbrev pub HasNoLengths : Entries → Type 0
+HasNoLengths text = (g e : Entry) (k : ℕ) → first_with (codes "graph") (listed text) ≡ Some g → slice_get (pairs_in g) k ≡ Some e → has_key (codes "edge") e ≡ true → first_with (codes "minlen") (pairs_in e) ≡ None
+
+-- where no edge has the key `minlen`, each edge has the length 1
+abbrev pub LengthsDefault : Type 0
+LengthsDefault = (text : Entries) (g : InputGraph) → HasNoLengths text → embedded_graph text ≡ Some g → g.lengths ≡ replicate (length g.graph.ends) 1
 
 -- a text with the pairs of a plain graph within the limits, at any places, has no fault, and its graph is that one
 abbrev pub ReadsBack : Type 0

@@ -21,12 +21,14 @@ counted n = map (λ k. pos k) (range_with_len 1 n)
 unfoldable pub default_orders : Graph → List (List ℕ)
 default_orders g = map (default_order g.ends) (range_with_len 0 g.vertices)
 
--- vertices are named from 1, edges from 0; there are no labels, no outer face and no paths
+-- vertices are named from 1, edges from 0, and each edge has the length 1; there are no labels, no outer face and no
+-- paths
 abbrev pub plain_graph : Graph → InputGraph
 plain_graph g = record {
   graph = g;
   vertex_names = counted g.vertices;
   edge_names = positions (length g.ends);
+  lengths = replicate (length g.ends) 1;
   labels = replicate g.vertices None;
   orders = default_orders g;
   outer = None;

@@ -1,9 +1,11 @@
--- What a graph's file has: all that the graph has but written paths, that is its names, shown labels, orders and outer
--- face, so that nothing is left to a default and the file is read again as the graph; or its vertices and edges alone.
+-- What a graph's file has: all that the graph has but written paths, that is its names, lengths, shown labels, orders
+-- and outer face, so that the file is read again as the graph; or its vertices and edges alone. Of this only the length
+-- 1 is left to its default.
 --   name_of names k     the name of vertex or edge k
 --   order_pair          the order of a vertex, by the names of its edges
 --   label_pairs         the label of a vertex, where it has one
 --   node_pairs g v      what the pair of vertex v holds; written_node is the pair
+--   length_of g e       the length of edge e; length_pairs has it where it isn't 1
 --   written_edge g e    the pair of edge e
 --   outer_pairs         the edge and the side of the outer face, where it is named
 --   written_pairs g     what the pair `graph` holds
@@ -11,12 +13,13 @@
 --   IsWritable g        so few vertices and edges, and so short orders, that a list can hold them, and no label with a
 --                       quotation mark, which would end its string
 --   Extent              how much is written: Plain the names of the vertices and the ends of the edges, Whole all
---   rest_pairs, id_pairs, outer_by   what a vertex, an edge and the graph have so of the rest
+--   rest_pairs, id_pairs, length_by, outer_by   what a vertex, an edge and the graph have so of the rest
 --   node_by, edge_by, pairs_by, entries_by   the pair of a vertex, of an edge, what 'graph' holds, and the tree
 --   CanBeWritten x g    g is writable, where all is written
---   with_ends g h d     the same names, labels and orders over the digraph h, with the outer end d, without written paths
+--   with_ends g h d     the same names, lengths, labels and orders over the digraph h, with the outer end d, and without
+--                       written paths
 -- Letters: g graph, h digraph, v vertex, e edge, d end. The place of each pair is 0.
-use Rattle.std.specs.Prelude.{ℕ, ℤ, pos, ◌≢◌, ◌+◌, ◌<◌, ◌^◌, List, [], ◌∷◌, ◌++◌, map, length, slice_index_or, codes, Option, None, Some, All, cond}
+use Rattle.std.specs.Prelude.{ℕ, ℤ, pos, ◌≢◌, ◌+◌, ◌<◌, ◌^◌, ◌==◌, if◌then◌else◌, List, [], ◌∷◌, ◌++◌, map, length, slice_index_or, codes, Option, None, Some, All, cond}
 use Rattle.std.specs.List.{range_with_len}
 use Rattle.st_ids.specs.Graph.{Graph, tail_of, head_of}
 use Rattle.st_ids.specs.Ends.{edge_of, is_out}
@@ -47,8 +50,16 @@ node_pairs g v = int_pair (codes "id") (name_of g.vertex_names v) ∷ (label_pai
 abbrev pub written_node : InputGraph → ℕ → Entry
 written_node g v = entry (codes "node") 0 (list (entries_of (node_pairs g v)))
 
+-- the length of an edge; one that isn't there has none, which is 1
+abbrev pub length_of : InputGraph → ℕ → ℕ
+length_of g e = slice_index_or g.lengths e 1
+
+-- a length that isn't 1
+abbrev pub length_pairs : ℕ → List Entry
+length_pairs n = if n == 1 then [] else int_pair (codes "minlen") (pos n) ∷ []
+
 abbrev pub edge_pairs : InputGraph → ℕ → List Entry
-edge_pairs g e = int_pair (codes "id") (name_of g.edge_names e) ∷ int_pair (codes "source") (name_of g.vertex_names (tail_of g.graph.ends e)) ∷ int_pair (codes "target") (name_of g.vertex_names (head_of g.graph.ends e)) ∷ []
+edge_pairs g e = int_pair (codes "id") (name_of g.edge_names e) ∷ int_pair (codes "source") (name_of g.vertex_names (tail_of g.graph.ends e)) ∷ int_pair (codes "target") (name_of g.vertex_names (head_of g.graph.ends e)) ∷ length_pairs (length_of g e)
 
 abbrev pub written_edge : InputGraph → ℕ → Entry
 written_edge g e = entry (codes "edge") 0 (list (entries_of (edge_pairs g e)))
@@ -98,8 +109,13 @@ abbrev pub id_pairs : Extent → List ℤ → ℕ → List Entry
 id_pairs Plain names e = []
 id_pairs Whole names e = int_pair (codes "id") (name_of names e) ∷ []
 
+-- the length of an edge, where all is written
+abbrev pub length_by : Extent → ℕ → List Entry
+length_by Plain n = []
+length_by Whole n = length_pairs n
+
 abbrev pub arc_pairs : Extent → InputGraph → ℕ → List Entry
-arc_pairs x g e = id_pairs x g.edge_names e ++ int_pair (codes "source") (name_of g.vertex_names (tail_of g.graph.ends e)) ∷ int_pair (codes "target") (name_of g.vertex_names (head_of g.graph.ends e)) ∷ []
+arc_pairs x g e = id_pairs x g.edge_names e ++ int_pair (codes "source") (name_of g.vertex_names (tail_of g.graph.ends e)) ∷ int_pair (codes "target") (name_of g.vertex_names (head_of g.graph.ends e)) ∷ length_by x (length_of g e)
 
 abbrev pub edge_by : Extent → InputGraph → ℕ → Entry
 edge_by x g e = entry (codes "edge") 0 (list (entries_of (arc_pairs x g e)))
@@ -121,12 +137,13 @@ abbrev pub CanBeWritten : Extent → InputGraph → Type 0
 CanBeWritten Plain g = Unit {0}
 CanBeWritten Whole g = IsWritable g
 
--- the same names, labels and orders over other ends of the edges, with an outer end and without written paths
+-- the same names, lengths, labels and orders over other ends of the edges, with an outer end and without written paths
 abbrev pub with_ends : InputGraph → Graph → ℕ → InputGraph
 with_ends g h d = record {
   graph = h;
   vertex_names = g.vertex_names;
   edge_names = g.edge_names;
+  lengths = g.lengths;
   labels = g.labels;
   orders = g.orders;
   outer = Some d;

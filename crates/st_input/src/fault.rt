@@ -5,8 +5,8 @@ use st_ids::NoMemory;
 use thiserror::Error;
 
 /// The first fault of a tree. The faults are looked for in the order of the variants, each at its first place, but
-/// that the unknown edge of an outer face comes after a bad outer face. A place is the byte at which a pair's key
-/// begins.
+/// that those of an edge, `NoEnd` to `BadLength`, are looked for edge by edge, and that the unknown edge of an outer
+/// face comes after a bad outer face. A place is the byte at which a pair's key begins.
 #[derive(Clone, Copy, Debug, PartialEq, Eq, Error)]
 pub enum ShapeFault {
     /// The text has no pair `graph`.
@@ -30,6 +30,9 @@ pub enum ShapeFault {
     /// The source of an edge, by its position, or else its target is the `id` of no node.
     #[error("edge {edge} ends at unknown node {id}")]
     UnknownEnd { edge: u32, id: i64 },
+    /// The `minlen` of an edge isn't from 1 to 500.
+    #[error("bad minlen at {at}")]
+    BadLength { at: u32 },
     /// All edges have an `id`, and an earlier edge has the same one.
     #[error("edge id {id} twice")]
     SameEdgeId { id: i64 },

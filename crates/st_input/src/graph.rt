@@ -2,41 +2,44 @@
 ghost use Rattle.gml_core.specs.Sound.{IsSound};
 ghost use Rattle.gml_core.specs.Trees.{listed};
 ghost use Rattle.gml_core.specs.Views.{entry_view, view};
+ghost use Rattle.st_ids.specs.declared.limits.TheConstants.{MOST_LENGTH};
 ghost use Rattle.st_input.specs.EdgeNames.{known_names};
 ghost use Rattle.st_input.specs.Embedding.{embedded_graph, embedded_in};
 ghost use Rattle.st_input.specs.Faults.{FailsBy};
 ghost use Rattle.st_input.specs.Found.{IsFoundInParts, tabled};
 ghost use Rattle.st_input.specs.FirstFault.{parts_fault, shape_fault, text_fault};
+ghost use Rattle.st_ids.specs.Lengths.{IsLength};
 ghost use Rattle.st_input.specs.InputGraph.{AreShownLabels, AreListed, IsConsistent};
 ghost use Rattle.st_input.specs.Names.{AreDifferent};
 ghost use Rattle.st_parts.specs.Parts.{parts_in};
 ghost use Rattle.st_input.specs.Paths.{ArePathsThere, PathsFailBy, path_name_fault, paths_by};
 ghost use Rattle.st_input.specs.Written.{IsWritable, with_ends};
 ghost use Rattle.st_parts.specs.Used.{HasSoundList, datum_of, first_with};
-ghost use Rattle.std.specs.Prelude.{◌≡◌, ◌≢◌, ◌<◌, ◌≤◌, ◌*◌, ◌^◌, ℕ, codes, length, option_map, slice_get, None, Some, IfOk, IfSome, MatchOption, OnOk};
+ghost use Rattle.std.specs.Prelude.{◌≡◌, ◌≢◌, ◌<◌, ◌≤◌, ◌*◌, ◌^◌, ℕ, codes, length, option_map, slice_get, All, None, Some, IfOk, IfSome, MatchOption, OnOk};
 
 use crate::edges::{EdgeNames, edges_by_name, orders_of};
 use crate::fault::{PathNameFault, ShapeFault};
 use crate::names::NameSet;
-use crate::nodes::{ends_of, nodes_by_name};
+use crate::nodes::{Arcs, arcs_of, nodes_by_name};
 use crate::orders::whole_orders;
 use crate::outer::{limits, outer_of};
 use crate::paths::paths_of;
 use crate::tables::{edge_table, graph_of, vertex_table};
 use gml_core::{Pair, Tree};
 use sqlite_items::Items;
-use st_ids::{Dart, Digraph, EdgeList, IdVec, Names, NoMemory, PathList, VertexId};
+use st_ids::{Dart, Digraph, EdgeId, EdgeList, IdVec, Names, NoMemory, PathList, VertexId};
 use st_parts::parts::{Parts, Scan, scan_graph};
 use st_parts::used::{first_pair, second_at};
 use std::alloc::Global;
 use std::marker::Model;
 
-/// A graph with its names, labels, orders, outer face and written paths. A contract sees them as plain data
+/// A graph with its names, lengths, labels, orders, outer face and written paths. A contract sees them as plain data
 /// (`InputGraph`), whose tables fit together.
 #[derive(Drop)]
 pub struct GraphSpec {
     graph: Digraph,
     names: Names,
+    lengths: IdVec<EdgeId, u32>,
     orders: IdVec<VertexId, EdgeList>,
     outer: Option<Dart>,
     paths: Items<Items<i64>>,
@@ -85,6 +88,25 @@ impl GraphSpec {
         &self.names
     }
 
+    /// The least length of an edge, in rows: the written one, else 1.
+    pub fn length(&self, e: EdgeId) -> u32
+        requires there { e.0 < length self.now.graph.ends }
+        ensures value { slice_get self.now.lengths e.0 ≡ Some result }
+        ensures from_one { 1 ≤ result }
+        ensures to_most { result ≤ MOST_LENGTH }
+    {
+        *self.lengths.get(e)
+    }
+
+    /// The least length of each edge, in rows, by number.
+    pub fn lengths(&self) -> &IdVec<EdgeId, u32>
+        ensures value { result.now ≡ self.now.lengths }
+        ensures size { length self.now.lengths ≡ length self.now.graph.ends }
+        ensures rows { All IsLength self.now.lengths }
+    {
+        &self.lengths
+    }
+
     /// The clockwise list of the edges at each vertex: the written one, else the default.
     pub fn orders(&self) -> &IdVec<VertexId, EdgeList>
         ensures value { result.now ≡ self.now.orders }
@@ -127,8 +149,8 @@ impl GraphSpec {
         paths_of(alloc, &self.edge_names, self.paths.as_slice())
     }
 
-    /// The same vertices and edges with their names, labels and orders, where the edges have the ends that `graph`
-    /// says.
+    /// The same vertices and edges with their names, lengths, labels and orders, where the edges have the ends that
+    /// `graph` says.
     ///
     /// Shape: the outer face is that of the end `outer`; there are no written paths.
     /// Cost: O(1); the tables are handed on. Not proved.
@@ -143,6 +165,7 @@ impl GraphSpec {
     {
         let GraphSpec {
             names,
+            lengths,
             orders,
             by_name,
             edge_names,
@@ -152,6 +175,7 @@ impl GraphSpec {
         assemble(
             graph,
             names,
+            lengths,
             orders,
             Some(outer),
             paths,
@@ -161,12 +185,13 @@ impl GraphSpec {
     }
 }
 
-/// What the names of a graph lead to: the ends of its edges, its written orders, and its outer end.
+/// What the names of a graph lead to: the ends of its edges with their lengths, its written orders, and its outer end.
 #[derive(Drop)]
 struct Found {
     by_name: NameSet,
     edge_names: EdgeNames,
     ends: Items<(u32, u32)>,
+    lengths: IdVec<EdgeId, u32>,
     orders: IdVec<VertexId, EdgeList>,
     outer: Option<Dart>,
 }
@@ -188,7 +213,7 @@ fn look_up(
     let nodes = parts.nodes.as_slice();
     let edges = parts.edges.as_slice();
     let by_name = nodes_by_name(alloc, nodes)?;
-    let ends = ends_of(alloc, &by_name, edges)?;
+    let Arcs { ends, lengths } = arcs_of(alloc, &by_name, edges)?;
     let edge_names = edges_by_name(alloc, edges)?;
     let orders = orders_of(alloc, &edge_names, nodes)?;
     let outer = outer_of(&edge_names, parts.outer)?;
@@ -202,6 +227,7 @@ fn look_up(
         by_name,
         edge_names,
         ends,
+        lengths,
         orders,
         outer,
     })
@@ -210,6 +236,7 @@ fn look_up(
 pub(crate) fn assemble(
     graph: Digraph,
     names: Names,
+    lengths: IdVec<EdgeId, u32>,
     orders: IdVec<VertexId, EdgeList>,
     outer: Option<Dart>,
     paths: Items<Items<i64>>,
@@ -219,12 +246,13 @@ pub(crate) fn assemble(
     requires index { by_name ≡ names.vertex }
     requires edge_index { known_names edge_names ≡ names.edge }
     requires few_paths { length paths < 2 ^ 31 }
-    requires consistent { IsConsistent (tabled graph names orders outer paths) }
-    ensures { result ≡ tabled graph names orders outer paths }
+    requires consistent { IsConsistent (tabled graph names lengths orders outer paths) }
+    ensures { result ≡ tabled graph names lengths orders outer paths }
 {
     GraphSpec {
         graph,
         names,
+        lengths,
         orders,
         outer,
         paths,
@@ -252,6 +280,7 @@ fn build(alloc: Global, parts: Parts, found: Found) -> Result<GraphSpec, NoMemor
         by_name,
         edge_names,
         ends,
+        lengths,
         orders,
         outer,
     } = found;
@@ -262,7 +291,9 @@ fn build(alloc: Global, parts: Parts, found: Found) -> Result<GraphSpec, NoMemor
         edge: edge_table(alloc, edges.as_slice())?,
         label: labels,
     };
-    Ok(assemble(graph, names, orders, outer, paths, by_name, edge_names))
+    Ok(assemble(
+        graph, names, lengths, orders, outer, paths, by_name, edge_names,
+    ))
 }
 
 /// What the pair `graph` of a tree says, where it is the only one and each used pair has the right kind.
@@ -312,8 +343,8 @@ fn spec_of(
 /// The graph of a tree, or its first fault.
 ///
 /// The limits are the greatest numbers of vertices and edges that are allowed. Faults are looked for in the order of
-/// `ShapeFault`: no graph, a second one, a value of the wrong kind, then the nodes, the ends of edges, the ids of
-/// edges, the orders, the outer face, and last the limits.
+/// `ShapeFault`: no graph, a second one, a value of the wrong kind, then the nodes, the ends and lengths of edges, the
+/// ids of edges, the orders, the outer face, and last the limits.
 ///
 /// Errors: the first fault, with its place or name; `NoMemory`.
 /// Cost: O(n) on average, for a tree of n pairs. The tree is only read.

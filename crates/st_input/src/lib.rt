@@ -43,7 +43,7 @@ mod tests {
     #[test]
     fn each_text_has_its_first_fault(rt: HostRuntime) -> Result<(), Fail> {
         let alloc = rt.alloc();
-        let rows: [(&[u8], Option<ShapeFault>); 14] = [
+        let rows: [(&[u8], Option<ShapeFault>); 17] = [
             (b"a 1", Some(ShapeFault::NoGraph)),
             (
                 b"graph [ ] graph [ ]",
@@ -65,6 +65,18 @@ mod tests {
             (
                 b"graph [ edge [ source 1 target 2 ] ]",
                 Some(ShapeFault::UnknownEnd { edge: 0, id: 1 }),
+            ),
+            (
+                b"graph [ node [ id 1 ] node [ id 2 ] edge [ source 1 target 2 minlen 0 ] ]",
+                Some(ShapeFault::BadLength { at: 61 }),
+            ),
+            (
+                b"graph [ node [ id 1 ] node [ id 2 ] edge [ source 1 target 2 minlen 2.0 ] ]",
+                Some(ShapeFault::BadKind { at: 61 }),
+            ),
+            (
+                b"graph [ node [ id 1 ] node [ id 2 ] edge [ source 1 target 2 minlen 501 ] edge [ ] ]",
+                Some(ShapeFault::BadLength { at: 61 }),
             ),
             (
                 b"graph [ node [ id 1 ] node [ id 2 ] edge [ id 7 source 1 target 2 ] edge [ id 7 source 1 target 2 ] ]",
@@ -102,7 +114,7 @@ mod tests {
     }
 
     const TEXT: &[u8] =
-        b"graph [ node [ id -1 label \"s\xC3(\" ] node [ id 5 label 3 ] node [ id 7 order [ e 11 e 10 ] ] edge [ id 10 source -1 target 7 ] edge [ id 11 source 5 target 7 ] edge [ id 12 source -1 target 5 ] edge [ id 13 source -1 target 5 ] outer [ edge 12 side 1 ] path [ e 10 ] ]";
+        b"graph [ node [ id -1 label \"s\xC3(\" ] node [ id 5 label 3 minlen 2.0 ] node [ id 7 order [ e 11 e 10 ] ] edge [ id 10 source -1 target 7 ] edge [ id 11 source 5 target 7 minlen 500 ] edge [ id 12 source -1 target 5 ] edge [ id 13 source -1 target 5 ] outer [ edge 12 side 1 ] path [ e 10 ] ]";
 
     fn has_names(spec: &GraphSpec) -> bool {
         spec.names().vertex.items() == [-1, 5, 7].as_slice()
@@ -112,6 +124,12 @@ mod tests {
     fn has_ends(spec: &GraphSpec) -> bool {
         spec.graph().ends() == [(0, 2), (1, 2), (0, 1), (0, 1)].as_slice()
             && spec.outer() == Some(Dart(5))
+    }
+
+    fn has_lengths(spec: &GraphSpec) -> bool {
+        spec.lengths().items() == [1, 500, 1, 1].as_slice()
+            && spec.graph().edges() == 4
+            && spec.length(EdgeId(1)) == 500
     }
 
     fn has_vertices(spec: &GraphSpec) -> bool {
@@ -150,7 +168,10 @@ mod tests {
             (has_names(&spec), has_ends(&spec), has_vertices(&spec)),
             (true, true, true)
         );
-        assert_eq!(rt; (has_orders(&spec), has_labels(&spec)), (true, true));
+        assert_eq!(rt;
+            (has_lengths(&spec), has_orders(&spec), has_labels(&spec)),
+            (true, true, true)
+        );
         Ok(())
     }
 
@@ -243,7 +264,7 @@ mod tests {
         let text = written_text(rt.alloc(), TEXT)?;
         assert_eq!(rt;
             text.bytes(),
-            b"graph [\ndirected 1\nouter [\nedge 12\nside 1\n]\nnode [\nid -1\nlabel \"s?(\"\norder [\ne 10\ne 12\ne 13\n]\n]\nnode [\nid 5\norder [\ne 11\ne 13\ne 12\n]\n]\nnode [\nid 7\norder [\ne 11\ne 10\n]\n]\nedge [\nid 10\nsource -1\ntarget 7\n]\nedge [\nid 11\nsource 5\ntarget 7\n]\nedge [\nid 12\nsource -1\ntarget 5\n]\nedge [\nid 13\nsource -1\ntarget 5\n]\n]\n".as_slice()
+            b"graph [\ndirected 1\nouter [\nedge 12\nside 1\n]\nnode [\nid -1\nlabel \"s?(\"\norder [\ne 10\ne 12\ne 13\n]\n]\nnode [\nid 5\norder [\ne 11\ne 13\ne 12\n]\n]\nnode [\nid 7\norder [\ne 11\ne 10\n]\n]\nedge [\nid 10\nsource -1\ntarget 7\n]\nedge [\nid 11\nsource 5\ntarget 7\nminlen 500\n]\nedge [\nid 12\nsource -1\ntarget 5\n]\nedge [\nid 13\nsource -1\ntarget 5\n]\n]\n".as_slice()
         );
         Ok(())
     }

@@ -1,5 +1,5 @@
-//! Vertices by their names, and the ends of edges.
-ghost use Rattle.st_input.specs.Faults.{FailsBy, edge_fault, unknown_end_fault, ends_fault, ends_in, first_fault, name_fault, node_fault, node_name, node_names, pair_in};
+//! Vertices by their names, and the ends and lengths of edges.
+ghost use Rattle.st_input.specs.Faults.{FailsBy, arc_fault, edge_fault, unknown_end_fault, ends_fault, ends_in, first_fault, length_fault, lengths_in, name_fault, node_fault, node_name, node_names, pair_in, rows_of};
 ghost use Rattle.st_input.specs.Names.{number_of};
 ghost use Rattle.st_input.specs.Orders.{HasEndsBelow};
 ghost use Rattle.std.specs.Prelude.{◌≡◌, [], ◌∷◌, ◌++◌, ◌<◌, ◌^◌, length, All, None, Some, IfOk, OnOk};
@@ -7,7 +7,9 @@ ghost use Rattle.std.specs.Prelude.{◌≡◌, [], ◌∷◌, ◌++◌, ◌<◌,
 use crate::fault::ShapeFault;
 use crate::names::{NameSet, Salted};
 use sqlite_items::Items;
-use st_parts::parts::{Edge, Node, put};
+use st_ids::limits::MOST_LENGTH;
+use st_ids::{EdgeId, IdVec};
+use st_parts::parts::{Edge, Minlen, Node, put};
 use std::alloc::Global;
 
 fn add_node(set: &mut NameSet, node: &Node) -> Result<(), ShapeFault>
@@ -81,24 +83,68 @@ fn pair_of(vertices: &NameSet, i: u32, edge: Edge) -> Result<(u32, u32), ShapeFa
     }
 }
 
-/// The tail and the head of each edge.
-pub(crate) fn ends_of(
-    alloc: Global,
-    vertices: &NameSet,
-    edges: &[Edge],
-) -> Result<Items<(u32, u32)>, ShapeFault>
+/// The written length, else 1.
+fn length_of(minlen: Option<Minlen>) -> Result<u32, ShapeFault>
+    ensures rows { IfOk result (λ n. n ≡ rows_of minlen) }
+    ensures none { OnOk result (length_fault minlen ≡ None) }
+    ensures fault { FailsBy (length_fault minlen) result }
+{
+    match minlen {
+        Some(written) => {
+            if 1 <= written.rows && written.rows <= i64::from(MOST_LENGTH) {
+                Ok(written.rows.unsigned_abs() as u32)
+            } else {
+                Err(ShapeFault::BadLength { at: written.at })
+            }
+        }
+        None => Ok(1),
+    }
+}
+
+/// The tail, the head and the length of an edge.
+#[derive(Clone, Copy)]
+struct Arc {
+    ends: (u32, u32),
+    length: u32,
+}
+
+fn arc_of(vertices: &NameSet, i: u32, edge: Edge) -> Result<Arc, ShapeFault>
+    requires { length vertices.now < 2 ^ 32 }
+    ensures ends { IfOk result (λ a. a.ends ≡ pair_in vertices.now edge) }
+    ensures within { IfOk result (λ a. HasEndsBelow (length vertices.now) a.ends) }
+    ensures rows { IfOk result (λ a. a.length ≡ rows_of edge.minlen) }
+    ensures none { OnOk result (arc_fault vertices.now i edge ≡ None) }
+    ensures fault { FailsBy (arc_fault vertices.now i edge) result }
+{
+    let ends = pair_of(vertices, i, edge)?;
+    let length = length_of(edge.minlen)?;
+    Ok(Arc { ends, length })
+}
+
+/// The tail and the head of each edge, and the length of each.
+#[derive(Drop)]
+pub(crate) struct Arcs {
+    pub(crate) ends: Items<(u32, u32)>,
+    pub(crate) lengths: IdVec<EdgeId, u32>,
+}
+
+/// The ends and the length of each edge.
+pub(crate) fn arcs_of(alloc: Global, vertices: &NameSet, edges: &[Edge]) -> Result<Arcs, ShapeFault>
     requires vertices { length vertices.now < 2 ^ 32 }
-    requires edges { length edges.now < 2 ^ 32 }
-    ensures ends { IfOk result (λ a. a ≡ ends_in vertices.now edges.now) }
-    ensures size { IfOk result (λ a. length a ≡ length edges.now) }
-    ensures within { IfOk result (All (HasEndsBelow (length vertices.now))) }
+    requires edges { length edges.now < 2 ^ 31 }
+    ensures ends { IfOk result (λ a. a.ends ≡ ends_in vertices.now edges.now) }
+    ensures size { IfOk result (λ a. length a.ends ≡ length edges.now) }
+    ensures within { IfOk result (λ a. All (HasEndsBelow (length vertices.now)) a.ends) }
+    ensures lengths { IfOk result (λ a. a.lengths ≡ lengths_in edges.now) }
     ensures none { OnOk result (first_fault (edge_fault vertices.now) [] edges.now ≡ None) }
     ensures fault { FailsBy (first_fault (edge_fault vertices.now) [] edges.now) result }
 {
     let mut ends = Items::new(alloc);
+    let mut lengths = IdVec::with_capacity(alloc, edges.len() as u32)?;
     for (i, edge) in edges.iter().enumerate() {
-        let pair = pair_of(vertices, i as u32, *edge)?;
-        put(&mut ends, pair)?;
+        let arc = arc_of(vertices, i as u32, *edge)?;
+        put(&mut ends, arc.ends)?;
+        let _: EdgeId = lengths.push(arc.length)?;
     }
-    Ok(ends)
+    Ok(Arcs { ends, lengths })
 }

@@ -73,7 +73,8 @@ impl GraphSpec {
     /// The graph of a digraph alone, as if it came from a file with its vertices named 1, 2 and on, and with nothing
     /// else but its edges.
     ///
-    /// Shape: edges are named by their positions, from 0, and lie at each vertex in the default order.
+    /// Shape: edges are named by their positions, from 0, have the length 1, and lie at each vertex in the default
+    /// order.
     /// Errors: `NoMemory`; the digraph is dropped.
     /// Cost: O(V + E) on average.
     pub fn plain(alloc: Global, graph: Digraph) -> Result<GraphSpec, NoMemory>
@@ -85,10 +86,13 @@ impl GraphSpec {
             edge: positions_table(alloc, graph.edges() as usize)?,
             label: no_labels(alloc, graph.vertices())?,
         };
+        let lengths = IdVec::with_len(alloc, graph.edges(), 1)?;
         let by_name = counted_set(alloc, graph.vertices())?;
         let orders = default_table(alloc, &graph)?;
         let edge_names = EdgeNames::Positions(graph.edges());
         let paths = Items::new(alloc);
-        Ok(assemble(graph, names, orders, None, paths, by_name, edge_names))
+        Ok(assemble(
+            graph, names, lengths, orders, None, paths, by_name, edge_names,
+        ))
     }
 }

@@ -1,12 +1,12 @@
-//! The tree of a graph's file: with its names, labels, orders and outer face, so that it is read again as the graph, or
-//! with its vertices and edges alone.
+//! The tree of a graph's file: with its names, lengths, labels, orders and outer face, so that it is read again as the
+//! graph, or with its vertices and edges alone.
 ghost use Rattle.gml_core.specs.Sound.{IsSound, IsSpelled};
 ghost use Rattle.gml_core.specs.Trees.{depth, listed};
 ghost use Rattle.gml_core.specs.Views.{view};
 ghost use Rattle.gml_core.specs.declared.token.TokenKind.{TokenKind};
 ghost use Rattle.st_ids.specs.EdgeNumbers.{numbers};
 ghost use Rattle.st_input.specs.Plain.{int_pair, plain_entries};
-ghost use Rattle.st_input.specs.Written.{CanBeWritten, HasNoQuote, IsWritable, arc_pairs, edge_by, end_pairs, entries_by, id_pairs, label_pairs, name_pair, name_of, node_by, outer_by, outer_pairs, pairs_by, rest_pairs, vertex_pairs, written_entries};
+ghost use Rattle.st_input.specs.Written.{CanBeWritten, HasNoQuote, IsWritable, arc_pairs, edge_by, end_pairs, entries_by, id_pairs, label_pairs, length_by, name_pair, name_of, node_by, outer_by, outer_pairs, pairs_by, rest_pairs, vertex_pairs, written_entries};
 ghost use Rattle.std.specs.Prelude.{◌≡◌, ◌+◌, ◌*◌, ◌<◌, ◌≤◌, ◌^◌, [], ◌∷◌, ◌++◌, length, map, option_map, All, IfOk, IfSome, OnOk};
 ghost use Rattle.std.specs.List.{range_with_len};
 
@@ -149,6 +149,25 @@ fn push_id(
     Ok(())
 }
 
+/// Appends the length of an edge, where it isn't 1 and all is written.
+#[tactic(auto, unfolding(gml_core::specs::Lexing::token_at))]
+fn push_length(edge: &mut Tree, rows: u32, extent: Extent) -> Result<(), NoMemory>
+    requires sound { IsSound (view edge.old) }
+    requires room { length (listed (view edge.old)) + 1 < 2 ^ 31 }
+    ensures pairs { OnOk result (listed (view edge.new) ≡ listed (view edge.old) ++ length_by extent rows) }
+    ensures sound { IsSound (view edge.new) }
+{
+    match extent {
+        Extent::Plain => Ok(()),
+        Extent::Whole => {
+            if rows == 1 {
+                return Ok(());
+            }
+            push_number(edge, b"minlen", i64::from(rows))
+        }
+    }
+}
+
 /// What the pair of an edge holds.
 #[tactic(auto, unfolding(gml_core::specs::Lexing::token_at))]
 fn edge_tree(alloc: Global, spec: &GraphSpec, e: EdgeId, extent: Extent) -> Result<Tree, NoMemory>
@@ -161,6 +180,7 @@ fn edge_tree(alloc: Global, spec: &GraphSpec, e: EdgeId, extent: Extent) -> Resu
     push_id(&mut edge, &names.edge, e, extent)?;
     push_name(&mut edge, b"source", &names.vertex, spec.graph().tail(e))?;
     push_name(&mut edge, b"target", &names.vertex, spec.graph().head(e))?;
+    push_length(&mut edge, spec.length(e), extent)?;
     Ok(edge)
 }
 
@@ -294,8 +314,8 @@ fn file_tree(alloc: Global, spec: &GraphSpec, extent: Extent) -> Result<Tree, No
 /// The tree of a file with all that the graph has but written paths.
 ///
 /// Shape: one pair `graph` with `directed 1`, then `outer` where the outer face is named, then a `node` with `id`,
-/// `label` where there is one, and `order` for each vertex, then an `edge` with `id`, `source` and `target` for each
-/// edge. Each place is 0.
+/// `label` where there is one, and `order` for each vertex, then an `edge` with `id`, `source`, `target`, and `minlen`
+/// where the length isn't 1, for each edge. Each place is 0.
 /// Errors: `NoMemory`.
 /// Cost: O(V + E + length of the orders), a list for each vertex, edge and order. Not proved.
 pub fn written_tree(alloc: Global, spec: &GraphSpec) -> Result<Tree, NoMemory>
