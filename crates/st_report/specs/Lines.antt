@@ -98,6 +98,7 @@ shape_line (shape.NoId at) = placed (codes "gml: node without id at ") at
 shape_line (shape.SameId id) = numbered (codes "gml: node id ") id (codes " twice\n")
 shape_line (shape.NoEnd edge) = numbered (codes "gml: edge ") (pos edge) (codes " lacks an end\n")
 shape_line (shape.UnknownEnd edge id) = numbered (codes "gml: edge ") (pos edge) (codes " ends at unknown node ") ++ numbered [] id (codes "\n")
+shape_line (shape.BadLength at) = placed (codes "gml: bad minlen at ") at
 shape_line (shape.SameEdgeId id) = numbered (codes "gml: edge id ") id (codes " twice\n")
 shape_line (shape.UnknownEdge at) = placed (codes "gml: unknown edge at ") at
 shape_line (shape.BadOuter at) = placed (codes "gml: bad outer at ") at

@@ -104,6 +104,7 @@ fn write_shape<D: Sink>(diag: &mut D, fault: &ShapeFault) -> Result<(), Failed>
                 b"\n",
             )
         }
+        ShapeFault::BadLength { at } => write_number(diag, b"gml: bad minlen at ", *at, b"\n"),
         ShapeFault::SameEdgeId { id } => write_number(diag, b"gml: edge id ", *id, b" twice\n"),
         ShapeFault::UnknownEdge { at } => write_number(diag, b"gml: unknown edge at ", *at, b"\n"),
         ShapeFault::BadOuter { at } => write_number(diag, b"gml: bad outer at ", *at, b"\n"),
