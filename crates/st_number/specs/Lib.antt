@@ -2,7 +2,9 @@ pub mod Bounds
 pub mod Filling
 pub mod Greatest
 pub mod Heights
+pub mod Least
 pub mod Numbers
 pub mod Parallel
 pub mod Passing
+pub mod Spread
 pub mod Weighing

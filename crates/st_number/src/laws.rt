@@ -1,7 +1,9 @@
 //! Laws of heights and columns: empty functions, whose contracts are theorems about the definitions of specs/.
 ghost use Rattle.st_number.specs.Bounds.{BoundsLaw, ToSidesLaw};
 ghost use Rattle.st_number.specs.Greatest.{FiniteLaw, HeightsLaw};
+ghost use Rattle.st_number.specs.Least.{LeastLaw};
 ghost use Rattle.st_number.specs.Numbers.{NumbersLaw};
+ghost use Rattle.st_sides.specs.Sides.{IsSides, SidesValue};
 
 use st_sides::{Sides, laws};
 
@@ -41,3 +43,9 @@ pub fn bounds(sides: &Sides)
 {
     laws::local(sides);
 }
+
+/// Heights are the least: they rise along each edge by its weight, and whatever numbers of the vertices do so too, each
+/// vertex stands at least as high above the source by these as by the heights.
+pub fn least_heights()
+    ensures { (g : SidesValue) → IsSides g → LeastLaw g }
+{}

@@ -7,9 +7,11 @@ mod multiple;
 #[cfg(test)]
 mod number_tests;
 mod passes;
+mod spreading;
 mod weights;
 
 pub use dual_pass::columns;
 pub use multiple::parallel;
 pub use passes::{heights, pass, signed};
+pub use spreading::spread;
 pub use weights::Weights;

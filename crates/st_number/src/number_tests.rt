@@ -1,9 +1,11 @@
 //! Parallels, heights and columns of small graphs.
-ghost use Rattle.std.specs.Prelude.{◌≡◌, ◌<◌, ℕ, length, slice_index, IfOk, IfSome, IsTrue};
+ghost use Rattle.std.specs.Prelude.{All, ◌≡◌, ◌<◌, ℕ, length, slice_index, IfOk, IfSome, IsTrue};
 ghost use Rattle.st_map.specs.Embedded.{bare};
 ghost use Rattle.st_map.specs.Orders.{HasNoLoop, order_at};
+ghost use Rattle.st_ids.specs.Lengths.{IsLength};
 
-use crate::{Weights, columns, heights, parallel};
+use crate::{Weights, columns, heights, parallel, spread};
+use st_ids::limits::MOST_LENGTH;
 use st_ids::{Digraph, EdgeId, EdgeList, FaceId, IdVec, VertexId};
 use st_map::Map;
 use st_sides::Sides;
@@ -112,6 +114,36 @@ fn parallels_of(
     parallel(alloc, &graph).ok()
 }
 
+/// A list of lengths.
+fn lengths_of(alloc: Global, row: &[u32]) -> Option<IdVec<EdgeId, u32>>
+    ensures { IfSome result (All IsLength) }
+{
+    let mut list: IdVec<EdgeId, u32> = IdVec::new(alloc);
+    for n in row {
+        if *n < 1 || *n > MOST_LENGTH || list.len() > 100 {
+            return None;
+        }
+        list.push(*n).ok()?;
+    }
+    Some(list)
+}
+
+/// The rows of its edges, where they have these lengths.
+fn rows_of(
+    alloc: Global,
+    n: u32,
+    edges: &[(u32, u32)],
+    rows: &[&[u32]],
+    lengths: &[u32],
+) -> Option<IdVec<EdgeId, u32>> {
+    let graph = embedded_of(alloc, n, edges, rows)?;
+    let lengths = lengths_of(alloc, lengths)?;
+    if lengths.len() != graph.map().edges() {
+        return None;
+    }
+    spread(alloc, &graph, &lengths).ok()
+}
+
 const CHORDS: [(u32, u32); 5] = [(0, 1), (1, 3), (1, 2), (0, 2), (2, 3)];
 
 const CHORD_LISTS: [&[u32]; 4] = [&[0, 3], &[1, 2, 0], &[4, 3, 2], &[4, 1]];
@@ -155,6 +187,16 @@ mod tests {
         assert_eq!(rt;
             found.as_ref().map(|p| p.items()),
             Some([true, false, true, false].as_slice())
+        );
+        Ok(())
+    }
+
+    #[test]
+    fn a_parallel_edge_takes_two_rows_or_its_length(rt: HostRuntime) -> Result<(), Fail> {
+        let found = rows_of(rt.alloc(), 3, &DOUBLE, &DOUBLE_LISTS, &[1, 4, 5, 1]);
+        assert_eq!(rt;
+            found.as_ref().map(|r| r.items()),
+            Some([2u32, 4, 5, 1].as_slice())
         );
         Ok(())
     }
