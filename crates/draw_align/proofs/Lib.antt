@@ -6,6 +6,7 @@ mod ChoiceLemmas
 mod ConstrainedLemmas
 mod CrossLemmas
 mod FaultLemmas
+mod HeightLemmas
 mod HomeLemmas
 mod PictureLemmas
 mod SameLemmas

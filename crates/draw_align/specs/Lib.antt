@@ -3,6 +3,7 @@ pub mod Built
 pub mod Constrained
 pub mod Crossing
 pub mod Faults
+pub mod Heights
 pub mod Homes
 pub mod Laws
 pub mod Listed

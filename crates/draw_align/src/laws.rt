@@ -2,6 +2,7 @@
 ghost use Rattle.draw_align.specs.Alignment.{AlignmentLaw, AreValid, Paths};
 ghost use Rattle.draw_align.specs.Constrained.{ConstrainedLaw};
 ghost use Rattle.draw_align.specs.Faults.{AreThere};
+ghost use Rattle.draw_align.specs.Heights.{ConstrainedHeights};
 ghost use Rattle.draw_align.specs.Laws.{OneFaultLaw, OnePictureLaw};
 ghost use Rattle.draw_align.specs.Listed.{AreSound};
 ghost use Rattle.std.specs.Prelude.{List, ℕ, length};
@@ -28,4 +29,9 @@ pub fn one_picture()
 /// Two first faults of the same paths are the same, and sound paths have none. Want of memory is none of them.
 pub fn one_fault()
     ensures { (g : SidesValue) → IsSides g → (ps : List (List ℕ)) → AreThere g ps → OneFaultLaw g ps }
+{}
+
+/// In each constrained picture each vertex stands at its height: the greatest weight of a walk from the source.
+pub fn constrained_heights()
+    ensures { (g : SidesValue) → IsSides g → ConstrainedHeights g }
 {}

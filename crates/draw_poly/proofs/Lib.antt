@@ -1,6 +1,7 @@
 mod BendLemmas
 mod BuildLemmas
 mod DirectionLemmas
+mod HeightLemmas
 mod ItemLemmas
 mod LaidLemmas
 mod NumberLemmas

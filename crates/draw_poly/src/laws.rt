@@ -1,4 +1,5 @@
 //! Laws of polyline pictures: empty functions, whose contracts are theorems about the definitions of specs/.
+ghost use Rattle.draw_poly.specs.Heights.{PolylineHeights};
 ghost use Rattle.draw_poly.specs.Laws.{PolylinePicturesLaw, PolylineLaw};
 ghost use Rattle.draw_poly.specs.Tracks.{TracksLaw};
 ghost use Rattle.st_sides.specs.Sides.{SidesValue, IsSides};
@@ -20,4 +21,9 @@ pub fn polyline()
 /// For all weights, names and placements there is a picture, and one alone for given places of the vertices.
 pub fn one_picture()
     ensures { (g : SidesValue) → IsSides g → PolylinePicturesLaw g }
+{}
+
+/// In each polyline picture each vertex stands at its height: the greatest weight of a walk from the source.
+pub fn polyline_heights()
+    ensures { (g : SidesValue) → IsSides g → PolylineHeights g }
 {}

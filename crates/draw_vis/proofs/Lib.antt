@@ -1,4 +1,5 @@
 mod BuildLemmas
+mod HeightLemmas
 mod ItemLemmas
 mod LaidLemmas
 mod NumberLemmas

@@ -1,4 +1,5 @@
 //! Laws of the two pictures: empty functions, whose contracts are theorems about the definitions of specs/.
+ghost use Rattle.draw_vis.specs.Heights.{TessellationHeights, VisibilityHeights};
 ghost use Rattle.draw_vis.specs.Laws.{PicturesLaw, TessellationLaw, VisibilityLaw};
 ghost use Rattle.st_sides.specs.Sides.{SidesValue, IsSides};
 
@@ -16,4 +17,14 @@ pub fn tessellation()
 /// For all weights and names there is a picture of each of the two forms, and one alone.
 pub fn one_picture()
     ensures { (g : SidesValue) → IsSides g → PicturesLaw g }
+{}
+
+/// In each visibility picture each vertex stands at its height: the greatest weight of a walk from the source.
+pub fn visibility_heights()
+    ensures { (g : SidesValue) → IsSides g → VisibilityHeights g }
+{}
+
+/// In each tessellation picture each vertex stands at its height.
+pub fn tessellation_heights()
+    ensures { (g : SidesValue) → IsSides g → TessellationHeights g }
 {}

@@ -10,5 +10,6 @@ mod PlaceLemmas
 mod PushLemmas
 mod SegmentLemmas
 mod SpanLemmas
+mod StandLemmas
 mod TableLemmas
 pub mod Public

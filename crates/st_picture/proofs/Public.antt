@@ -10,4 +10,5 @@ pub use Rattle.st_picture.proofs.PlaceLemmas.{all_append, all_at, all_each, all_
 pub use Rattle.st_picture.proofs.PushLemmas.{each_count, edge_name_is}
 pub use Rattle.st_picture.proofs.SegmentLemmas.{of_four, of_three, of_two}
 pub use Rattle.st_picture.proofs.SpanLemmas.{across_in, in_first, in_second, low_column, low_height, out_first, out_second, poles_differ, right_column, right_in, sink_in, span_in, span_out, wide}
+pub use Rattle.st_picture.proofs.StandLemmas.{drawing_stands, figures_stand}
 pub use Rattle.st_picture.proofs.TableLemmas.{Has, naturals, number_of}

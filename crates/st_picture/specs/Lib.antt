@@ -5,3 +5,4 @@ pub mod Growing
 pub mod Items
 pub mod Naming
 pub mod Order
+pub mod Standing
