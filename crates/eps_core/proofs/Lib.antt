@@ -12,4 +12,6 @@ mod Pictures
 mod Plain
 mod Readings
 mod Short
+mod Sizes
+mod Spelled
 pub mod Public

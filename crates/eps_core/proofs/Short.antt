@@ -25,14 +25,14 @@ abbrev pub room : List (List ℕ) → ℕ
 room [] = 0
 room (w ∷ ws) = length w + 1 + room ws
 
-length-spaced_words : (l : List ℕ) (ws : List (List ℕ)) → length (spaced_words l ws) ≡ length l + room ws
+pub length-spaced_words : (l : List ℕ) (ws : List (List ℕ)) → length (spaced_words l ws) ≡ length l + room ws
 length-spaced_words l [] = omega arith
 length-spaced_words l (w ∷ ws) = omega (arith, length-spaced_words (l ++ 32 ∷ w) ws, length-append l (32 ∷ w))
 
 short_spaced : (l : List ℕ) (ws : List (List ℕ)) → length l + room ws ≤ 255 → IsShort (spaced_words l ws)
 short_spaced l ws h = omega (arith, length-spaced_words l ws, h)
 
-name_length : (z : ℤ) → FitsSigned w64 z → length (signed_decimal z) ≤ 20
+pub name_length : (z : ℤ) → FitsSigned w64 z → length (signed_decimal z) ≤ 20
 name_length (pos n) h = length_signed_le 19 (pos n) (omega (arith, h.sfits)) (omega (arith, h.sfits))
 name_length (negsuc n) h = length_signed_le 19 (negsuc n) (omega (arith, h.sfits)) (omega (arith, h.sfits))
 
@@ -42,10 +42,10 @@ put_length m (pos n) s lo hi =
     length_signed_le 10 (pos (24 * n + m)) (omega (arith, small, s)) (omega (arith, small, s))
 put_length m (negsuc n) s lo hi = absurd (omega (arith, ints, lo))
 
-x_length : (m : ℕ) (p : Point) → m ≤ 100 → IsInLargestFrame p → length (put m p.x) ≤ 11
+pub x_length : (m : ℕ) (p : Point) → m ≤ 100 → IsInLargestFrame p → length (put m p.x) ≤ 11
 x_length m p s h = put_length m p.x s h.left h.right
 
-y_length : (m : ℕ) (p : Point) → m ≤ 100 → IsInLargestFrame p → length (put m p.y) ≤ 11
+pub y_length : (m : ℕ) (p : Point) → m ≤ 100 → IsInLargestFrame p → length (put m p.y) ≤ 11
 y_length m p s h = put_length m p.y s h.low h.high
 
 name_short : (it : Item) → HasNames it → IsShort (name_line it)
@@ -60,7 +60,7 @@ path_room : (ps : List Point) → AreInLargestFrame ps → room (path ps) ≤ 31
 path_room [] h = omega arith
 path_room (p ∷ ps) h = omega (arith, x_length 36 p (omega arith) h.0, y_length 36 p (omega arith) h.0, path_room ps h.1)
 
-words_room : (ps : List Point) → AreInLargestFrame ps → room (line_words ps) ≤ 31 * length ps + 7
+pub words_room : (ps : List Point) → AreInLargestFrame ps → room (line_words ps) ≤ 31 * length ps + 7
 words_room [] h = omega arith
 words_room (p ∷ ps) h = omega (arith, x_length 36 p (omega arith) h.0, y_length 36 p (omega arith) h.0, path_room ps h.1)
 
@@ -68,7 +68,7 @@ escaped_case : (b : ℕ) (bs es : List ℕ) (m : Bool) → length es ≤ 2 * len
 escaped_case b bs es true p = omega (arith, p)
 escaped_case b bs es false p = omega (arith, p)
 
-escaped_length : (t : List ℕ) → length (escaped t) ≤ 2 * length t
+pub escaped_length : (t : List ℕ) → length (escaped t) ≤ 2 * length t
 escaped_length [] = omega arith
 escaped_length (b ∷ bs) = escaped_case b bs (escaped bs) (b == 40 || b == 41 || b == 92) (escaped_length bs)
 
@@ -92,7 +92,7 @@ mark_short (Label n p text) h =
     short_spaced (beside p.x) (beside p.y ∷ codes "moveto" ∷ (40 ∷ escaped text ++ 41 ∷ []) ∷ codes "show" ∷ [])
     (omega (arith, x_length 42 p (omega arith) h.0, y_length 42 p (omega arith) h.0, escaped_length text, length-append (escaped text) (41 ∷ []), h.2))
 
-abbrev AreShort : List (List ℕ) → Type 0
+abbrev pub AreShort : List (List ℕ) → Type 0
 AreShort ls = AllByRecursion IsShort ls
 
 shorts_append : (a b : List (List ℕ)) → AreShort a → AreShort b → AreShort (a ++ b)
@@ -110,7 +110,7 @@ title_short Constrained = omega arith
 title_short Polyline = omega arith
 title_short Dominance = omega arith
 
-front_short : (form : Form) (f : Point) → IsFrame f → AreShort (front_lines form f)
+pub front_short : (form : Form) (f : Point) → IsFrame f → AreShort (front_lines form f)
 front_short form f h = (
   omega arith,
   (

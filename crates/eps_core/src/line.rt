@@ -1,14 +1,17 @@
 //! A line that is being built, in a fixed buffer.
-ghost use Rattle.std.specs.Prelude.{◌≡◌, ◌+◌, ◌≤◌, ℤ, pos, ◌≤ℤ◌, [], ◌∷◌, ◌++◌, length};
+ghost use Rattle.std.specs.Prelude.{◌≡◌, ◌+◌, ◌≤◌, ℤ, pos, ◌≤ℤ◌, [], ◌∷◌, ◌++◌, length, drop};
 ghost use Rattle.std.specs.Fmt.{decimal, signed_decimal};
 ghost use Rattle.st_ids.specs.declared.limits.TheConstants.{MOST_COORDINATE};
 ghost use Rattle.eps_core.specs.Text.{coordinate, beside, printed};
 
-use itoa::Buffer;
+use itoa::{Buffer, write_digits};
 use std::marker::Model;
 
 // More than the longest line with its line feed.
 const ROOM: usize = 256;
+
+// A space and the longest number.
+const LONGEST: usize = 21;
 
 /// A line of at most 256 bytes. A contract sees the list of them.
 #[derive(Drop)]
@@ -25,6 +28,32 @@ impl Model for Line {
     ghost view = { λ a. take a.len a.bytes };
 
     ghost invariant = { λ a. a.len ≤ 256 };
+}
+
+// Writes the number so that it ends at byte 21, and answers where it starts.
+#[inline(always)]
+fn spell(n: i64, bytes: &mut [u8; 2 * LONGEST]) -> usize
+    ensures some { 1 ≤ result }
+    ensures start { result + length (signed_decimal n) ≡ 21 }
+    ensures text { drop result bytes.new ≡ signed_decimal n ++ drop 21 bytes.old }
+{
+    let start = write_digits(n.unsigned_abs(), bytes, LONGEST);
+    if n >= 0 {
+        return start;
+    }
+    bytes[start - 1] = b'-';
+    start - 1
+}
+
+// Writes a space and the number so that they end at byte 21, and answers where they start.
+#[inline(always)]
+fn spell_spaced(n: i64, bytes: &mut [u8; 2 * LONGEST]) -> usize
+    ensures start { result + (length (signed_decimal n) + 1) ≡ 21 }
+    ensures text { drop result bytes.new ≡ 32 ∷ signed_decimal n ++ drop 21 bytes.old }
+{
+    let start = spell(n, bytes) - 1;
+    bytes[start] = b' ';
+    start
 }
 
 impl Line {
@@ -83,8 +112,11 @@ impl Line {
         ensures text { self.new ≡ self.old ++ 32 ∷ signed_decimal n }
         ensures len { length self.new ≤ length self.old + 21 }
     {
-        let mut buffer = Buffer::new();
-        self.word(buffer.format(n).as_bytes());
+        let mut spelled = [0; 2 * LONGEST];
+        let start = spell_spaced(n, &mut spelled);
+        // As many bytes each time, which is two moves: those behind the number are never read.
+        self.bytes[self.len..self.len + LONGEST].copy_from_slice(&spelled[start..start + LONGEST]);
+        self.len += LONGEST - start;
     }
 
     /// Begins again with a coordinate of a label.

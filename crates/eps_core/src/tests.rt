@@ -140,11 +140,30 @@ fn each_item_has_its_two_lines(rt: HostRuntime) -> Result<(), Fail> {
 }
 
 #[test]
-fn a_fault_leaves_a_front(rt: HostRuntime) -> Result<(), Fail> {
+fn one_byte_a_write_gives_the_same_text(rt: HostRuntime) -> Result<(), Fail> {
     let alloc = rt.alloc();
-    let mut sink = MemSink::new(alloc, 300, 24, &[2])?;
-    assert_eq!(rt; write_eps(&mut sink, &one_edge(alloc)?), Err(Failed));
-    assert_eq!(rt; sink.taken(), b"%!PS-Adobe-3.0 EPSF-3.0\n".as_slice());
-    assert_eq!(rt; sink.faults(), 1);
+    let mut sink = MemSink::new(alloc, 300, 1, &[])?;
+    assert_eq!(rt; write_eps(&mut sink, &one_edge(alloc)?), Ok(()));
+    assert_eq!(rt; sink.taken(), ONE_EDGE);
+    Ok(())
+}
+
+// The bytes that a write takes, the write that fails, and the bytes that were taken then.
+const FAILURES: [(usize, u64, usize); 4] = [(0, 1, 0), (24, 2, 24), (1, 4, 3), (1, 300, 299)];
+
+#[test]
+fn a_write_that_fails_leaves_the_beginning(rt: HostRuntime) -> Result<(), Fail> {
+    let alloc = rt.alloc();
+    for (per_call, fails, taken) in FAILURES {
+        let mut sink = MemSink::new(alloc, 300, per_call, &[fails])?;
+        assert_eq!(rt;
+            write_eps(&mut sink, &one_edge(alloc)?),
+            Err(Failed),
+            "write {fails}"
+        );
+        assert_eq!(rt; sink.taken().len(), taken, "write {fails}");
+        assert!(rt; ONE_EDGE.starts_with(sink.taken()), "write {fails}");
+        assert_eq!(rt; sink.faults(), 1, "write {fails}");
+    }
     Ok(())
 }
