@@ -64,12 +64,12 @@ module _ (g h : Embedded) (q i : ℕ → ℕ) (R : Renumbers g h q i) (pg : Perm
   touches_on f v l T = (
     q T.0,
     (T.1.0, orbit_on T.1.0 f l ∙ ap q T.1.1),
-    R.at_same T.0 (Rattle.st_map.proofs.OrbitLemmas.orbit-stays (darts g) (phi g) pg f T.0 l T.1) ∙ T.2,
+    R.at_same T.0 (Rattle.st_map.proofs.Public.orbit-stays (darts g) (phi g) pg f T.0 l T.1) ∙ T.2,
   )
 
   pub touches_back : (f v : ℕ) → f < darts g → Touches h (q f) v → Touches g f v
   touches_back f v l T =
-      let k : T.0 < darts g = Rattle.st_map.proofs.OrbitLemmas.orbit-stays (darts g) (phi h) ph' (q f) T.0 (R.into f l) T.1 in (
+      let k : T.0 < darts g = Rattle.st_map.proofs.Public.orbit-stays (darts g) (phi h) ph' (q f) T.0 (R.into f l) T.1 in (
         i T.0,
         (T.1.0, ap (iterate T.1.0 (phi g)) (sym (R.back_into f l)) ∙ orbit_back T.1.0 (q f) (R.into f l) ∙ ap i T.1.1),
         sym (R.at_same (i T.0) (R.back_in T.0 k)) ∙ ap (at h) (R.into_back T.0 k) ∙ T.2,

@@ -166,8 +166,8 @@ module _ (g : SidesValue) (S : IsSides g) where
   -- source and sink are left of nothing and right of nothing
   not_pole : (u v : ℕ) → u < g.vertices → v < g.vertices → LeftOf g (vertex u) (vertex v) ⊎ LeftOf g (vertex v) (vertex u) → (u ≢ g.source) × (u ≢ g.sink)
   not_pole u v i j h = (
-    (λ q. apart (inl (record { way = (Rattle.st_sides.proofs.ExclusiveLemmas.from_source g S v j).way; walk = walk_from (sym q) (Rattle.st_sides.proofs.ExclusiveLemmas.from_source g S v j).walk })) h),
-    (λ q. apart (inr (record { way = (to_sink g S v j).way; walk = Rattle.st_ids.proofs.WalkLemmas.walk_to (sym q) (to_sink g S v j).walk })) h),
+    (λ q. apart (inl (record { way = (Rattle.st_sides.proofs.Public.from_source g S v j).way; walk = walk_from (sym q) (Rattle.st_sides.proofs.Public.from_source g S v j).walk })) h),
+    (λ q. apart (inr (record { way = (to_sink g S v j).way; walk = Rattle.st_ids.proofs.Public.walk_to (sym q) (to_sink g S v j).walk })) h),
   )
     where
       apart : Reaches (primal g) u v ⊎ Reaches (primal g) v u → LeftOf g (vertex u) (vertex v) ⊎ LeftOf g (vertex v) (vertex u) → ⊥
@@ -190,7 +190,7 @@ module _ (g : SidesValue) (S : IsSides g) where
       across_v v j n n' =
           let e = S.has_out v j n' in
           let A = across_out g S v e.0 j n n' e.1 e.2 in
-          Rattle.st_ids.proofs.WalkLemmas.reach_trans A.0 (Rattle.st_ids.proofs.WalkLemmas.reach_trans (Rattle.st_ids.proofs.WalkLemmas.reach_arc e.0 e.1) A.1)
+          Rattle.st_ids.proofs.Public.reach_trans A.0 (Rattle.st_ids.proofs.Public.reach_trans (Rattle.st_ids.proofs.Public.reach_arc e.0 e.1) A.1)
 
   -- what is left of the walk's end branches off the walk on its left
   pub branches_left : (u v : ℕ) → u < g.vertices → v < g.vertices → LeftOf g (vertex v) (vertex u) → (W : List ℕ) → Walk (primal g) g.source W u → Branch g (λ x. turn (outs g x) []) W v
@@ -201,7 +201,7 @@ module _ (g : SidesValue) (S : IsSides g) where
       let right_in : In (right_of g v) F.list = closed_reach g S F.swept h F.left_in in
       let e = S.has_out v j m.1 in
       let A = across_out g S v e.0 j m.0 m.1 e.1 e.2 in
-      let left_in : In (left_of g v) F.list = closed_reach g S F.swept (Rattle.st_ids.proofs.WalkLemmas.reach_trans A.0 (Rattle.st_ids.proofs.WalkLemmas.reach_trans (Rattle.st_ids.proofs.WalkLemmas.reach_arc e.0 e.1) A.1)) right_in in
+      let left_in : In (left_of g v) F.list = closed_reach g S F.swept (Rattle.st_ids.proofs.Public.reach_trans A.0 (Rattle.st_ids.proofs.Public.reach_trans (Rattle.st_ids.proofs.Public.reach_arc e.0 e.1) A.1)) right_in in
       let Z = left_walk F.list F.swept v j m.1 left_in in
       part_left F.list F.swept u v g.source W Z.way k Z.walk F.on Z.on (λ r. not_before_right g S (vertex u) (vertex v) i j r h) (λ r. not_before_left g S (vertex v) (vertex u) j i r h)
 
