@@ -1,6 +1,6 @@
 -- What a drawing needs of an accepted graph, and what follows for its output.
 use Rattle.std.proofs.Common.{◌≡◌, ℕ, suc, ◌+◌, ◌-◌, ◌<◌, ◌≤◌, List, [], ◌∷◌, length, get_or, Option, Some, None, ℤ, pos, nat_abs, refl, sym, ap, ◌∙◌, subst, arith}
-use Rattle.std.specs.Prelude.{Result, Ok, Err, IfOk}
+use Rattle.std.specs.Prelude.{All, Result, Ok, Err, IfOk}
 use Rattle.std.specs.List.{AllByRecursion}
 use Rattle.std.proofs.lemmas.List.Elements.{All-get_or}
 use Rattle.std.proofs.lemmas.Int.{ints}
@@ -11,12 +11,12 @@ use Rattle.st_test.specs.Planar.{StValue}
 use Rattle.st_sides.specs.Sides.{SidesValue, edge_count}
 use Rattle.st_sides.specs.SidesOf.{IsSidesOf}
 use Rattle.st_picture.specs.Naming.{AreNames, IsLabelText, vertex_name, label_text}
+use Rattle.st_ids.specs.Lengths.{IsLength}
 use Rattle.st_input.specs.InputGraph.{InputGraph, IsConsistent, IsLabel, IsShownByte}
 use Rattle.st_verdict.specs.Verdict.{IsFound}
 use Rattle.st_ids.specs.declared.ids.EdgeId.{EdgeId}
 use Rattle.st_ids.specs.Walks.{Arcs, Walk, stay, step}
 use Rattle.st_shape.specs.Rules.{Drawing, IsPrintable}
-use Rattle.st_number.specs.Weighing.{WeightsValue, AreLawfulWeights}
 use Rattle.st_number.specs.Greatest.{weigh, IsGreatest}
 use Rattle.st_number.specs.Numbers.{AreNumbers}
 use Rattle.draw_poly.specs.Placing.{AreEnds}
@@ -27,7 +27,7 @@ use Rattle.st_number.proofs.Public.{bounds_law}
 use Rattle.st_words.specs.declared.words.Spot.{Spot}
 use Rattle.draw_vis.specs.Visibility.{IsVisibility, IsVisibilityBy}
 use Rattle.draw_vis.specs.Tessellation.{IsTessellation, IsTessellationBy}
-use Rattle.stdraw_core.specs.Drawing.{file_names, one_each, AnswersRows, AnswersPlaces, IsPlacedPolyline}
+use Rattle.stdraw_core.specs.Drawing.{file_names, edge_length, AnswersLengths, AnswersRows, AnswersPlaces, IsPlacedPolyline}
 
 -- ---- names
 all_by_place : (P : ℕ → Type 0) (xs : List ℕ) → ((i : ℕ) → i < length xs → P (get_or xs i 0)) → AllByRecursion P xs
@@ -70,33 +70,41 @@ same_greatest w w' same a v n h = record {
 pub same_numbers : (x : SidesValue) (w w' y c : ℕ → ℕ) → ((e : ℕ) → e < edge_count x → w e ≡ w' e) → AreNumbers x w y c → AreNumbers x w' y c
 same_numbers x w w' y c same h = record { height = λ v l. same_greatest w w' same x.source v (y v) (h.height v l); column = h.column }
 
--- the picture under answers that are all 1
-pub visibility_by_ones : (post : EdgeId → ℕ → Type 0) (x : SidesValue) (N : Names) (d : Drawing) → ((e : EdgeId) (n : ℕ) → e.0 < edge_count x → post e n → n ≡ 1)
-    → IsVisibilityBy post x N d → IsVisibility x one_each N d
-visibility_by_ones post x N d ones h = record {
+-- the picture under answers that are these weights
+pub visibility_by : (post : EdgeId → ℕ → Type 0) (x : SidesValue) (w : ℕ → ℕ) (N : Names) (d : Drawing) → ((e : EdgeId) (n : ℕ) → e.0 < edge_count x → post e n → n ≡ w e.0)
+    → IsVisibilityBy post x N d → IsVisibility x w N d
+visibility_by post x w N d answers h = record {
   y = h.picture.y;
   c = h.picture.c;
-  numbers = same_numbers x h.weight one_each h.picture.y h.picture.c (λ e l. ones (record { 0 = e }) (h.weight e) l (h.taken e l)) h.picture.numbers;
+  numbers = same_numbers x h.weight w h.picture.y h.picture.c (λ e l. answers (record { 0 = e }) (h.weight e) l (h.taken e l)) h.picture.numbers;
   is = h.picture.is;
 }
 
-pub tessellation_by_ones : (post : EdgeId → ℕ → Type 0) (x : SidesValue) (N : Names) (d : Drawing) → ((e : EdgeId) (n : ℕ) → e.0 < edge_count x → post e n → n ≡ 1)
-    → IsTessellationBy post x N d → IsTessellation x one_each N d
-tessellation_by_ones post x N d ones h = record {
+pub tessellation_by : (post : EdgeId → ℕ → Type 0) (x : SidesValue) (w : ℕ → ℕ) (N : Names) (d : Drawing) → ((e : EdgeId) (n : ℕ) → e.0 < edge_count x → post e n → n ≡ w e.0)
+    → IsTessellationBy post x N d → IsTessellation x w N d
+tessellation_by post x w N d answers h = record {
   y = h.picture.y;
   c = h.picture.c;
-  numbers = same_numbers x h.weight one_each h.picture.y h.picture.c (λ e l. ones (record { 0 = e }) (h.weight e) l (h.taken e l)) h.picture.numbers;
+  numbers = same_numbers x h.weight w h.picture.y h.picture.c (λ e l. answers (record { 0 = e }) (h.weight e) l (h.taken e l)) h.picture.numbers;
   is = h.picture.is;
 }
 
--- a lawful closure with 1 as its greatest weight answers 1
-pub all_ones : {F : Type 0} (pre : F → EdgeId → Type 0) (post : F → EdgeId → ℕ → Type 0) (w : WeightsValue F) → AreLawfulWeights pre post w → w.most ≡ 1 → (m : ℕ) → w.edges ≡ m
-    → (e : EdgeId) (n : ℕ) → e.0 < m → post w.closure e n → n ≡ 1
-all_ones pre post w lawful one m count e n l h =
-    let there : e.0 < w.edges = omega arith in
-    let low : 1 ≤ n = lawful.from_one e n there h in
-    let high : n ≤ w.most = lawful.to_most e n there h in
-    omega arith
+-- the lengths of the file are those of the edges of its sides
+pub lengths_there : (g : InputGraph) (st : StValue) (x : SidesValue) → IsConsistent g → IsFound g st → IsSidesOf st.map.graph st.source st.sink st.outer x → length g.lengths ≡ edge_count x
+unfolding edge_count
+lengths_there g st x tables is of = tables.lengths ∙ sym (ap length (of.ends ∙ is.ends))
+
+-- an edge has a length of at least 1
+pub long_enough : (ls : List ℕ) → All IsLength ls → (e : ℕ) → e < length ls → 1 ≤ get_or ls e 0
+long_enough ls all e l = let is : IsLength (get_or ls e 0) = All-get_or IsLength ls e 0 l all in is.0
+
+pub lengths_from_one : (g : InputGraph) (st : StValue) (x : SidesValue) → IsConsistent g → IsFound g st → IsSidesOf st.map.graph st.source st.sink st.outer x → (e : ℕ) → e < edge_count x → 1 ≤ edge_length g e
+lengths_from_one g st x tables is of e l = long_enough g.lengths tables.rows e (let m : length g.lengths ≡ edge_count x = lengths_there g st x tables is of in omega arith)
+
+-- a closure that answers the lengths of the file answers those of the edges of its sides
+pub answers_there : (answer : EdgeId → ℕ → Type 0) (g : InputGraph) (st : StValue) (x : SidesValue) → IsConsistent g → IsFound g st → IsSidesOf st.map.graph st.source st.sink st.outer x
+    → AnswersLengths answer g → (e : EdgeId) (n : ℕ) → e.0 < edge_count x → answer e n → n ≡ edge_length g e.0
+answers_there answer g st x tables is of answers e n l h = answers e n (let m : length g.lengths ≡ edge_count x = lengths_there g st x tables is of in omega arith) h
 
 pub if_ok : {A E : Type 0} {P Q : A → Type 0} (r : Result A E) → IfOk r P → ((a : A) → P a → Q a) → IfOk r Q
 if_ok (Ok a) h f = f a h
@@ -123,9 +131,9 @@ pos_same m n e = ap nat_abs e
 
 -- the picture under what the closures answered
 pub placed_polyline : (answer : EdgeId → ℕ → Type 0) (place : ℤ → ℤ → ℤ → Type 0) (spot : Spot) (g : Embedded) (s t outer : ℕ) (x : SidesValue) → IsSidesOf g s t outer x → IsSides x → edge_count x ≤ 50000000
-    → (N : Names) (d : Drawing) → AnswersRows answer g → AnswersPlaces spot place → IsPolylineBy answer place x N d → IsPlacedPolyline spot g x N d
+    → (l : ℕ → ℕ) (N : Names) (d : Drawing) → AnswersRows answer g l → AnswersPlaces spot place → IsPolylineBy answer place x N d → IsPlacedPolyline spot g l x N d
 unfolding edge_count
-placed_polyline answer place spot g s t outer x of S few N d rows places h = record {
+placed_polyline answer place spot g s t outer x of S few long N d rows places h = record {
   weight = h.weight;
   rows = record {
     double = λ e l p. rows.double (record { 0 = e }) (h.weight e) l p (h.taken e (there e l));

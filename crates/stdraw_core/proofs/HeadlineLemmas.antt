@@ -26,7 +26,7 @@ use Rattle.st_report.specs.declared.stop.Refusal.{Refusal}
 use Rattle.st_report.specs.declared.stop.Status.{Status}
 use Rattle.st_report.specs.declared.stop.Status.TheVariants as status
 use Rattle.stdraw_core.specs.Answer.{Asks, AnswersCommand, AnswersGraph, AnswersFile, AnswersTask, IsAnswer}
-use Rattle.stdraw_core.specs.Drawing.{one_each, file_names, IsPictureOf, IsRightPicture, Draws, ShowsFile}
+use Rattle.stdraw_core.specs.Drawing.{edge_length, file_names, IsPictureOf, IsRightPicture, Draws, ShowsFile}
 use Rattle.stdraw_core.specs.Headline.{IsPlanarFile, HeadlineFor, Headline, QueryHeadlineFor, QueryHeadline, LatticeHeadlineFor, LatticeHeadline, CheckHeadlineFor, CheckHeadline}
 use Rattle.stdraw_core.specs.Checked.{AnswersCheck}
 use Rattle.stdraw_core.proofs.CheckLemmas.{clean_given, clean_found}
@@ -37,7 +37,7 @@ use Rattle.stdraw_core.specs.Paths.{AreSidesIn}
 use Rattle.st_verdict.specs.Verdict.{IsAccepted, IsFound}
 use Rattle.st_words.specs.declared.words.Task.TheVariants.{File, Check}
 use Rattle.st_words.specs.Words.{IsCommand, IsTask}
-use Rattle.stdraw_core.proofs.DrawingLemmas.{names_meet}
+use Rattle.stdraw_core.proofs.DrawingLemmas.{lengths_from_one, names_meet}
 use Rattle.stdraw_core.proofs.OneAnswer.{asks_one}
 use Rattle.stdraw_core.proofs.QueryLemmas.{known_unknown}
 use Rattle.stdraw_core.proofs.RunLemmas.{refused_not_done}
@@ -87,10 +87,10 @@ output_of command bytes out h =
 
 -- ---- the picture is right
 right_picture : (form : DrawForm) (g : InputGraph) (st : StValue) (x : SidesValue) → IsConsistent g → IsFound g st → AreSidesIn st x → IsSides x → (N : Names) → AreNames x N → (d : Drawing) → IsPictureOf form g st x N d → IsRightPicture form g x d
-right_picture Visibility g st x tables at are is N names d h = visibility_drawn x is one_each (λ e l. omega arith) N names d h
-right_picture Tessellation g st x tables at are is N names d h = tessellation_drawn x is one_each (λ e l. omega arith) N names d h
+right_picture Visibility g st x tables at are is N names d h = visibility_drawn x is (edge_length g) (lengths_from_one g st x tables at are.sides) N names d h
+right_picture Tessellation g st x tables at are is N names d h = tessellation_drawn x is (edge_length g) (lengths_from_one g st x tables at are.sides) N names d h
 right_picture Constrained g st x tables at are is N names d h = right_aligned g st tables at x are N names d h
-right_picture (Polyline spot) g st x tables at are is N names d h = polyline_drawn x is h.weight (long st.map.graph st.source st.sink st.outer x are.sides is h.weight h.rows) h.column N names d h.picture
+right_picture (Polyline spot) g st x tables at are is N names d h = polyline_drawn x is h.weight (long st.map.graph st.source st.sink st.outer x are.sides is (edge_length g) h.weight (lengths_from_one g st x tables at are.sides) h.rows) h.column N names d h.picture
 right_picture Dominance g st x tables at are is N names d h = right_dominance st x at.planar are.sides is N names d h
 
 shows_file : (bytes : List ℕ) (form : DrawForm) (g : InputGraph) (st : StValue) (out : List ℕ) → IsPlanarFile bytes g st → Draws form g st out → ShowsFile form g st out

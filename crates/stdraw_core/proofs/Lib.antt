@@ -16,4 +16,6 @@ mod ExactLemmas
 mod QueryLemmas
 mod LatticeLemmas
 mod CheckLemmas
+mod DrawingSize
 mod AcceptedLemmas
+mod FirstFormatLemmas

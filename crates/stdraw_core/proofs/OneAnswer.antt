@@ -37,7 +37,7 @@ use Rattle.st_sides.proofs.Public.{meaning_law, one_value_law}
 use Rattle.eps_core.specs.Text.{text}
 use Rattle.draw_dom.specs.Points.{vertex_point}
 use Rattle.draw_vis.proofs.Public.{pictures_law}
-use Rattle.stdraw_core.specs.Drawing.{one_each, file_names, IsPictureOf, Depicts, Draws}
+use Rattle.stdraw_core.specs.Drawing.{edge_length, file_names, IsPictureOf, Depicts, Draws}
 use Rattle.stdraw_core.proofs.GeneratedOne.{same_generated, file_same}
 use Rattle.stdraw_core.proofs.PolylineLemmas.{one_polyline}
 use Rattle.stdraw_core.proofs.DominanceLemmas.{one_dominance, one_points}
@@ -105,10 +105,10 @@ test_one g st (Err r) y h k = absurd h
 
 -- ---- the drawing
 same_picture : (form : DrawForm) (g : InputGraph) (st : StValue) (x : SidesValue) → IsConsistent g → IsFound g st → AreSidesIn st x → IsSides x → (N : Names) (d d' : Drawing) → IsPictureOf form g st x N d → IsPictureOf form g st x N d' → d ≡ d'
-same_picture Visibility g st x tables at are is N d d' h k = (pictures_law x is).one_visibility one_each N d d' h k
-same_picture Tessellation g st x tables at are is N d d' h k = (pictures_law x is).one_tessellation one_each N d d' h k
+same_picture Visibility g st x tables at are is N d d' h k = (pictures_law x is).one_visibility (edge_length g) N d d' h k
+same_picture Tessellation g st x tables at are is N d d' h k = (pictures_law x is).one_tessellation (edge_length g) N d d' h k
 same_picture Constrained g st x tables at are is N d d' h k = one_aligned g st tables at x are N d d' h k
-same_picture (Polyline spot) g st x tables at are is N d d' h k = one_polyline st.map.graph st.source st.sink st.outer x are.sides is spot N d d' h k
+same_picture (Polyline spot) g st x tables at are is N d d' h k = one_polyline st.map.graph st.source st.sink st.outer x are.sides is spot (edge_length g) N d d' h k
 same_picture Dominance g st x tables at are is N d d' h k = one_dominance st x at.planar are.sides is N d d' h k
 
 one_depicted : (form : DrawForm) (g : InputGraph) (st : StValue) → IsConsistent g → IsFound g st → (d d' : Drawing) → Depicts form g st d → Depicts form g st d' → d ≡ d'

@@ -35,12 +35,12 @@ use Rattle.st_report.specs.declared.stop.BadPath.{BadPath}
 use Rattle.st_report.specs.declared.stop.BadPath.TheVariants.{UnknownEdge}
 use Rattle.st_report.specs.declared.stop.Refusal.{Refusal}
 use Rattle.st_report.specs.declared.stop.Refusal.TheVariants.{Path}
-use Rattle.stdraw_core.specs.Drawing.{one_each, Draws, IsAlignedPicture}
+use Rattle.stdraw_core.specs.Drawing.{edge_length, Draws, IsAlignedPicture}
 use Rattle.stdraw_core.specs.Paths.{AreSidesIn, HasKnownEdges, HasValidPaths, IsBadPath, RefusesDraw, TellsPath, first_fault, paths_in, unknown_edge}
 use Rattle.st_verdict.specs.Verdict.{IsFound}
 use Rattle.st_verdict.specs.Stages.{IsToldBy}
 use Rattle.st_verdict.proofs.Public.{told_one}
-use Rattle.stdraw_core.proofs.DrawingLemmas.{same_greatest}
+use Rattle.stdraw_core.proofs.DrawingLemmas.{lengths_from_one, same_greatest}
 
 -- edges of the file's graph are edges of the sides
 pub as_sides : (g : InputGraph) (st : StValue) (x : SidesValue) → IsFound g st → IsSidesOf st.map.graph st.source st.sink st.outer x → (ps : List (List ℕ)) → ArePathsThere g.graph ps → AreThere x ps
@@ -50,25 +50,26 @@ as_sides g st x is of ps there p e l i =
     let h : e < length g.graph.ends = there p e l i in
     omega arith
 
--- the picture under answers that are all 1
-constrained_by_ones : (post : EdgeId → ℕ → Type 0) (x : SidesValue) (ps : List (List ℕ)) (N : Names) (d : Drawing) → ((e : EdgeId) (n : ℕ) → e.0 < edge_count x → post e n → n ≡ 1)
-    → IsConstrainedBy post x ps N d → IsConstrained x one_each ps N d
-constrained_by_ones post x ps N d ones h = record {
+-- the picture under answers that are these weights
+constrained_by : (post : EdgeId → ℕ → Type 0) (x : SidesValue) (w : ℕ → ℕ) (ps : List (List ℕ)) (N : Names) (d : Drawing) → ((e : EdgeId) (n : ℕ) → e.0 < edge_count x → post e n → n ≡ w e.0)
+    → IsConstrainedBy post x ps N d → IsConstrained x w ps N d
+constrained_by post x w ps N d answers h = record {
   y = h.picture.y;
   paths = h.picture.paths;
   x = h.picture.x;
-  heights = λ v l. same_greatest h.weight one_each (λ e l. ones (record { 0 = e }) (h.weight e) l (h.taken e l)) x.source v (h.picture.y v) (h.picture.heights v l);
+  heights = λ v l. same_greatest h.weight w (λ e l. answers (record { 0 = e }) (h.weight e) l (h.taken e l)) x.source v (h.picture.y v) (h.picture.heights v l);
   completed = h.picture.completed;
   columns = h.picture.columns;
   is = h.picture.is;
 }
 
-pub aligned_by_ones : (post : EdgeId → ℕ → Type 0) (g : InputGraph) (x : SidesValue) (ps : List (List ℕ)) → ps ≡ paths_in g → HasKnownEdges g → (N : Names) (d : Drawing) → ((e : EdgeId) (n : ℕ) → e.0 < edge_count x → post e n → n ≡ 1)
+pub aligned_by : (post : EdgeId → ℕ → Type 0) (g : InputGraph) (x : SidesValue) (ps : List (List ℕ)) → ps ≡ paths_in g → HasKnownEdges g → (N : Names) (d : Drawing)
+    → ((e : EdgeId) (n : ℕ) → e.0 < edge_count x → post e n → n ≡ edge_length g e.0)
     → AreSound x ps (length ps) → IsConstrainedBy post x ps N d → IsAlignedPicture g x N d
-aligned_by_ones post g x ps same known N d ones sound h = record {
+aligned_by post g x ps same known N d answers sound h = record {
   known = known;
   sound = subst (λ z. AreSound x z (length z)) same sound;
-  is = subst (λ z. IsConstrained x one_each z N d) same (constrained_by_ones post x ps N d ones h);
+  is = subst (λ z. IsConstrained x (edge_length g) z N d) same (constrained_by post x (edge_length g) ps N d answers h);
 }
 
 -- a fault is told in one way
@@ -145,10 +146,10 @@ module _ (g : InputGraph) (st : StValue) (tables : IsConsistent g) (is : IsFound
   pub right_aligned : (x : SidesValue) → AreSidesIn st x → (N : Names) → AreNames x N → (d : Drawing) → IsAlignedPicture g x N d → IsDrawn x d × IsAligned x (paths_in g) d
   right_aligned x are N names d h =
       let law = constrained_law x (are_sides x are) (paths_in g) (edges_there x are.sides h.known) h.sound in
-      (law.drawn one_each (λ e l. omega arith) N names d h.is, law.aligned one_each N d h.is)
+      (law.drawn (edge_length g) (lengths_from_one g st x tables is are.sides) N names d h.is, law.aligned (edge_length g) N d h.is)
 
   pub one_aligned : (x : SidesValue) → AreSidesIn st x → (N : Names) (d d' : Drawing) → IsAlignedPicture g x N d → IsAlignedPicture g x N d' → d ≡ d'
-  one_aligned x are N d d' h k = (picture_law x (are_sides x are) (paths_in g) (edges_there x are.sides h.known)).one one_each N d d' h.is k.is
+  one_aligned x are N d d' h k = (picture_law x (are_sides x are) (paths_in g) (edges_there x are.sides h.known)).one (edge_length g) N d d' h.is k.is
 
 -- ---- faults that the code is told
 -- what is told of the first fault

@@ -1,6 +1,7 @@
 -- A file has one polyline picture for each spot, and it is right.
-use Rattle.std.proofs.Common.{◌≡◌, ◌≢◌, ℕ, zero, suc, ◌-◌, ◌<◌, ◌≤◌, ◌⊎◌, inl, inr, length, sym, ap, ◌∙◌, subst, arith}
+use Rattle.std.proofs.Common.{◌≡◌, ◌≢◌, ℕ, zero, suc, max, ◌-◌, ◌<◌, ◌≤◌, ◌⊎◌, inl, inr, length, sym, ap, ◌∙◌, subst, arith}
 use Rattle.std.proofs.lemmas.Bool.{cases_eq}
+use Rattle.std.proofs.Math.Nat.{le-max_left}
 use Rattle.st_ids.specs.declared.names.Names.{Names}
 use Rattle.st_ids.specs.Graph.{tail_of, head_of}
 use Rattle.st_map.specs.Embedded.{Embedded, edges, tail, head}
@@ -14,7 +15,7 @@ use Rattle.draw_poly.specs.Numbers.{AreLong}
 use Rattle.draw_poly.specs.Polyline.{IsPolylines}
 use Rattle.draw_poly.proofs.Public.{one_placed}
 use Rattle.st_words.specs.declared.words.Spot.{Spot}
-use Rattle.stdraw_core.specs.Drawing.{AreRows, spot_place, IsPlacedPolyline}
+use Rattle.stdraw_core.specs.Drawing.{ArePolylineRows, spot_place, IsPlacedPolyline}
 use Rattle.stdraw_core.proofs.DrawingLemmas.{same_numbers}
 
 -- ---- whether an edge has a parallel
@@ -45,8 +46,8 @@ has_parallel : (g : Embedded) (e : ℕ) → HasParallel g e ⊎ (HasParallel g e
 has_parallel g e = elim (parallel_below g e (edges g)) [ inl q ↦ inl q | inr none ↦ inr (λ h. none h.0 h.1 h.2) ]
 
 -- ---- rows
-one_rows : (g : Embedded) (w w' : ℕ → ℕ) → AreRows g w → AreRows g w' → (e : ℕ) → e < edges g → w e ≡ w' e
-one_rows g w w' h k e l = elim (has_parallel g e) [
+one_rows : (g : Embedded) (l w w' : ℕ → ℕ) → ArePolylineRows g l w → ArePolylineRows g l w' → (e : ℕ) → e < edges g → w e ≡ w' e
+one_rows g r w w' h k e l = elim (has_parallel g e) [
   | inl p ↦ h.double e l p ∙ sym (k.double e l p)
   | inr n ↦ h.single e l n ∙ sym (k.single e l n)
 ]
@@ -69,13 +70,13 @@ module _ (g : Embedded) (s t outer : ℕ) (x : SidesValue) (of : IsSidesOf g s t
     },
   )
 
-  pub long : (w : ℕ → ℕ) → AreRows g w → AreLong x w
-  long w h = record {
+  pub long : (r w : ℕ → ℕ) → ((e : ℕ) → e < edge_count x → 1 ≤ r e) → ArePolylineRows g r w → AreLong x w
+  long r w some h = record {
     from_one = λ e l. elim (has_parallel g e) [
-      | inl p ↦ omega (arith, h.double e (there e l) p)
-      | inr n ↦ omega (arith, h.single e (there e l) n)
+      | inl p ↦ let d : w e ≡ max 2 (r e) = h.double e (there e l) p in let two : 2 ≤ max 2 (r e) = le-max_left 2 (r e) in omega arith
+      | inr n ↦ let d : w e ≡ r e = h.single e (there e l) n in let one : 1 ≤ r e = some e l in omega arith
     ];
-    from_two = λ e d l m n ts hs. omega (arith, h.double e (there e l) (parallel e d m n ts hs));
+    from_two = λ e d l m n ts hs. let q : w e ≡ max 2 (r e) = h.double e (there e l) (parallel e d m n ts hs) in let two : 2 ≤ max 2 (r e) = le-max_left 2 (r e) in omega arith;
   }
 
   under : (w w' : ℕ → ℕ) → ((e : ℕ) → e < edge_count x → w e ≡ w' e) → (p : ℕ → ℕ) (N : Names) (d : Drawing) → (h : IsPolylines x w p N d) → IsPolylines x w' p N d
@@ -88,9 +89,9 @@ module _ (g : Embedded) (s t outer : ℕ) (x : SidesValue) (of : IsSidesOf g s t
     is = h.is;
   }
 
-  pub one_polyline : (spot : Spot) (N : Names) (d d' : Drawing) → IsPlacedPolyline spot g x N d → IsPlacedPolyline spot g x N d' → d ≡ d'
-  one_polyline spot N d d' A B =
-      let same : (e : ℕ) → e < edge_count x → B.weight e ≡ A.weight e = λ e l. one_rows g B.weight A.weight B.rows A.rows e (there e l) in
+  pub one_polyline : (spot : Spot) (r : ℕ → ℕ) (N : Names) (d d' : Drawing) → IsPlacedPolyline spot g r x N d → IsPlacedPolyline spot g r x N d' → d ≡ d'
+  one_polyline spot r N d d' A B =
+      let same : (e : ℕ) → e < edge_count x → B.weight e ≡ A.weight e = λ e l. one_rows g r B.weight A.weight B.rows A.rows e (there e l) in
       let column : (f : ℕ) → f ≤ x.t_star → A.picture.c f ≡ B.picture.c f = λ f l. (numbers_law x S).same_columns A.picture.c B.picture.c A.picture.numbers.column B.picture.numbers.column f l in
       one_placed x S A.weight A.column B.column
       (λ v l. A.placed v l

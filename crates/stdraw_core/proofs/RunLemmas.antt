@@ -374,6 +374,7 @@ refused_not_done (Shape (shape.NoId at)) e = cc
 refused_not_done (Shape (shape.SameId id)) e = cc
 refused_not_done (Shape (shape.NoEnd n)) e = cc
 refused_not_done (Shape (shape.UnknownEnd n id)) e = cc
+refused_not_done (Shape (shape.BadLength at)) e = cc
 refused_not_done (Shape (shape.SameEdgeId id)) e = cc
 refused_not_done (Shape (shape.UnknownEdge at)) e = cc
 refused_not_done (Shape (shape.BadOuter at)) e = cc

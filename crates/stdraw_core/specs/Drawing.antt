@@ -1,8 +1,9 @@
 -- What a drawing answers about a planar st-graph.
 -- Letters: g graph of the file, st planar st-graph, x its sides, N names, d picture.
---   one_each                   each edge weighs 1
+--   edge_length g e            the length of an edge of the file: how many rows it takes at least
 --   file_names g               the names and labels of the file
---   AreRows g w                the weights of a polyline picture: 2 where another edge has the same ends, else 1
+--   ArePolylineRows g l w      the weights of a polyline picture: the lengths l, but 2 at least where another edge has the same ends
+--   AnswersLengths answer g    what a closure has to answer for the lengths of the file
 --   spot_place spot lo hi      the column of a dot between the ends of a bar
 --   AnswersRows, AnswersPlaces what closures have to answer for these weights and columns
 --   IsPlacedPolyline           the polyline picture with these weights and columns
@@ -14,7 +15,7 @@
 --   IsRightPicture form g x d  clean, rising and in order, or for a tessellation: its boxes tile the frame in order
 --   AnswersDraw form g st answer   that text, or why the paths can't be drawn
 --   ShowsFile form g st out    out is the EPS text of a right picture, in the orders of the file
-use Rattle.std.specs.Prelude.{◌≡◌, ℕ, ◌+◌, ◌-◌, ◌/◌, ◌<◌, List, ℤ, pos, length, Result, Ok, Err}
+use Rattle.std.specs.Prelude.{◌≡◌, ℕ, ◌+◌, ◌-◌, ◌/◌, ◌<◌, max, List, ℤ, pos, length, slice_index, Result, Ok, Err}
 use Rattle.st_ids.specs.declared.names.Names.{Names}
 use Rattle.st_map.specs.Embedded.{Embedded, edges, order}
 use Rattle.st_test.specs.Planar.{StValue}
@@ -44,18 +45,18 @@ use Rattle.st_words.specs.declared.words.Spot.{Spot}
 use Rattle.st_words.specs.declared.words.Spot.TheVariants.{Left, Middle, Right}
 use Rattle.stdraw_core.specs.Paths.{AreSidesIn, HasKnownEdges, RefusesDraw, paths_in}
 
--- each edge weighs 1
-abbrev pub one_each : ℕ → ℕ
-one_each e = 1
+-- the length of an edge of the file: how many rows it takes at least
+abbrev pub edge_length : InputGraph → ℕ → ℕ
+edge_length g e = slice_index g.lengths e
 
 -- the names and labels of the file
 abbrev pub file_names : InputGraph → Names
 file_names g = record { vertex = g.vertex_names; edge = g.edge_names; label = g.labels }
 
--- an edge takes two rows at least where another edge has the same ends, and else one
-pub record AreRows (g : Embedded) (w : ℕ → ℕ) : Type 0 where
-  pub double : (e : ℕ) → e < edges g → HasParallel g e → w e ≡ 2
-  pub single : (e : ℕ) → e < edges g → ¬ HasParallel g e → w e ≡ 1
+-- an edge takes as many rows as its length, and two at least where another edge has the same ends
+pub record ArePolylineRows (g : Embedded) (l w : ℕ → ℕ) : Type 0 where
+  pub double : (e : ℕ) → e < edges g → HasParallel g e → w e ≡ max 2 (l e)
+  pub single : (e : ℕ) → e < edges g → ¬ HasParallel g e → w e ≡ l e
 
 -- at the left end of the bar, in its middle, or at its right end
 abbrev pub spot_place : Spot → ℕ → ℕ → ℕ
@@ -63,19 +64,23 @@ spot_place Left lo hi = lo
 spot_place Middle lo hi = lo + (hi - lo) / 2
 spot_place Right lo hi = hi
 
--- whatever the closure answers on an edge of the graph is how many rows it takes
-pub record AnswersRows (answer : EdgeId → ℕ → Type 0) (g : Embedded) : Type 0 where
-  pub double : (e : EdgeId) (n : ℕ) → e.0 < edges g → HasParallel g e.0 → answer e n → n ≡ 2
-  pub single : (e : EdgeId) (n : ℕ) → e.0 < edges g → ¬ HasParallel g e.0 → answer e n → n ≡ 1
+-- whatever the closure answers on an edge is its length in the file
+abbrev pub AnswersLengths : (EdgeId → ℕ → Type 0) → InputGraph → Type 0
+AnswersLengths answer g = (e : EdgeId) (n : ℕ) → e.0 < length g.lengths → answer e n → n ≡ edge_length g e.0
+
+-- whatever the closure answers on an edge of the graph is how many rows it takes in a polyline picture
+pub record AnswersRows (answer : EdgeId → ℕ → Type 0) (g : Embedded) (l : ℕ → ℕ) : Type 0 where
+  pub double : (e : EdgeId) (n : ℕ) → e.0 < edges g → HasParallel g e.0 → answer e n → n ≡ max 2 (l e.0)
+  pub single : (e : EdgeId) (n : ℕ) → e.0 < edges g → ¬ HasParallel g e.0 → answer e n → n ≡ l e.0
 
 -- whatever the closure answers between two ends of a bar is the column of the spot
 abbrev pub AnswersPlaces : Spot → (ℤ → ℤ → ℤ → Type 0) → Type 0
 AnswersPlaces spot answer = (l h : ℕ) (x : ℤ) → AreEnds (pos l) (pos h) → answer (pos l) (pos h) x → x ≡ pos (spot_place spot l h)
 
 -- The polyline picture in which each vertex stands at this spot of its bar.
-pub record IsPlacedPolyline (spot : Spot) (g : Embedded) (x : SidesValue) (N : Names) (d : Drawing) : Type 0 where
+pub record IsPlacedPolyline (spot : Spot) (g : Embedded) (l : ℕ → ℕ) (x : SidesValue) (N : Names) (d : Drawing) : Type 0 where
   pub weight : ℕ → ℕ
-  pub rows : AreRows g weight
+  pub rows : ArePolylineRows g l weight
   pub column : ℕ → ℕ
   pub picture : IsPolylines x weight column N d
   pub placed : (v : ℕ) → v < x.vertices → column v ≡ spot_place spot (picture.c (left_of x v)) (picture.c (right_of x v) - 1)
@@ -89,14 +94,14 @@ pub record IsReducedPicture (st : StValue) (x : SidesValue) (N : Names) (d : Dra
 pub record IsAlignedPicture (g : InputGraph) (x : SidesValue) (N : Names) (d : Drawing) : Type 0 where
   pub known : HasKnownEdges g
   pub sound : AreSound x (paths_in g) (length (paths_in g))
-  pub is : IsConstrained x one_each (paths_in g) N d
+  pub is : IsConstrained x (edge_length g) (paths_in g) N d
 
 -- the picture of the form
 abbrev pub IsPictureOf : DrawForm → InputGraph → StValue → SidesValue → Names → Drawing → Type 0
-IsPictureOf Visibility g st x N d = IsVisibility x one_each N d
-IsPictureOf Tessellation g st x N d = IsTessellation x one_each N d
+IsPictureOf Visibility g st x N d = IsVisibility x (edge_length g) N d
+IsPictureOf Tessellation g st x N d = IsTessellation x (edge_length g) N d
 IsPictureOf Constrained g st x N d = IsAlignedPicture g x N d
-IsPictureOf (Polyline spot) g st x N d = IsPlacedPolyline spot st.map.graph x N d
+IsPictureOf (Polyline spot) g st x N d = IsPlacedPolyline spot st.map.graph (edge_length g) x N d
 IsPictureOf Dominance g st x N d = IsReducedPicture st x N d
 
 -- the picture of the form, by the sides of the planar st-graph and in the names of the file; it keeps the rules of pictures

@@ -20,7 +20,7 @@
 --   IsAcceptedFile              the line of a clean drawing was written
 --   CheckHeadlineFor            that line is written exactly where the file has a clean drawing
 --   CheckHeadline               so it is where nothing outside has failed
---   AcceptsDrawings             what is drawn is clean, and so, within the limit of bytes, a check accepts it
+--   AcceptsDrawings             what is drawn of a file is clean and short, and so a check accepts it
 use Rattle.std.specs.Prelude.{◌≡◌, ◌≢◌, ◌≤◌, ℕ, ℤ, Bool, List, [], ◌∷◌, length, Some, Ok}
 use Rattle.eps_core.specs.Text.{text}
 use Rattle.gml_core.specs.Trees.{Entries}
@@ -207,6 +207,7 @@ abbrev pub CheckHeadline : List (List ℕ) → SourceState → SourceState → S
 CheckHeadline words src src' out out' s = (bytes : List ℕ) → IsTask words Check → src.left ≡ Some bytes
     → s ≢ status.NoMemory → ¬ Rose src.faults src'.faults → ¬ Rose out.faults out'.faults → CheckHeadlineFor bytes out out' s
 
--- The text of each right drawing, within the limit of bytes, is that of a clean drawing.
+-- The text of each right drawing of a file's graph is that of a clean drawing.
 abbrev pub AcceptsDrawings : Type 0
-AcceptsDrawings = (form : DrawForm) (g : InputGraph) (st : StValue) (out : List ℕ) → ShowsFile form g st out → length out ≤ MOST_DRAWING_BYTES → (d : Drawing) × IsCleanFile out d
+AcceptsDrawings = (bytes : List ℕ) (g : InputGraph) (st : StValue) → IsPlanarFile bytes g st
+    → (form : DrawForm) (out : List ℕ) → ShowsFile form g st out → (d : Drawing) × IsCleanFile out d

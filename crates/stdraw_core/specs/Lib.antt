@@ -8,6 +8,7 @@ pub mod Oriented
 pub mod Generated
 pub mod Bench
 pub mod Answer
+pub mod FirstFormat
 pub mod Outputs
 pub mod Run
 pub mod Exact

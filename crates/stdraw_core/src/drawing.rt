@@ -1,18 +1,19 @@
 //! The picture of a graph, in the form that the words name.
-ghost use Rattle.std.specs.Prelude.{◌≡◌, ◌≢◌, ◌<◌, ◌≤◌, ◌≤ℤ◌, ℕ, pos, Some, true, slice_get, IfOk, length};
+ghost use Rattle.std.specs.Prelude.{All, slice_index, ◌≡◌, ◌≤◌, ◌≤ℤ◌, ℕ, pos, IfOk, length};
 ghost use Rattle.draw_poly.specs.Numbers.{IsLongOnParallels};
 ghost use Rattle.draw_poly.specs.Placing.{AreEnds, IsPlacement};
-ghost use Rattle.st_number.specs.Parallel.{AreParallel};
+ghost use Rattle.st_number.specs.Spread.{AreSpreadRows};
 ghost use Rattle.st_number.specs.Weighing.{AreLawfulWeights};
 ghost use Rattle.st_picture.specs.Naming.{AreNames};
 ghost use Rattle.st_sides.specs.Sides.{edge_count};
 ghost use Rattle.st_sides.specs.SidesOf.{IsSidesOf};
 ghost use Rattle.st_input.specs.InputGraph.{IsConsistent};
-ghost use Rattle.stdraw_core.specs.Drawing.{AnswersPlaces, AnswersRows, Depicts, IsPictureOf, IsReducedPicture, IsPlacedPolyline, spot_place};
+ghost use Rattle.st_ids.specs.Lengths.{IsLength};
+ghost use Rattle.stdraw_core.specs.Drawing.{AnswersLengths, AnswersPlaces, AnswersRows, Depicts, IsPictureOf, IsReducedPicture, IsPlacedPolyline, spot_place};
 ghost use Rattle.stdraw_core.specs.Paths.{AreSidesIn};
 ghost use Rattle.st_verdict.specs.Stops.{Gives, StopsAt};
 ghost use Rattle.st_verdict.specs.Verdict.{IsFound};
-ghost use Rattle.st_ids.specs.declared.limits.TheConstants.{MOST_VERTICES, MOST_EDGES};
+ghost use Rattle.st_ids.specs.declared.limits.TheConstants.{MOST_VERTICES, MOST_EDGES, MOST_LENGTH};
 ghost use Rattle.stdraw_core.specs.Drawing.{AnswersDraw};
 
 use crate::output::Output;
@@ -20,26 +21,16 @@ use crate::paths::aligned_picture;
 use draw_dom::dominance;
 use draw_poly::{Placer, polyline};
 use draw_vis::{tessellation, visibility};
+use st_ids::limits::MOST_LENGTH;
 use st_ids::{EdgeId, IdVec, Names, NoMemory};
 use st_input::GraphSpec;
-use st_number::{Weights, parallel};
+use st_number::{Weights, spread};
 use st_report::Stop;
 use st_shape::Picture;
 use st_sides::{Sides, laws};
 use st_test::StGraph;
 use st_words::{DrawForm, Spot};
 use std::alloc::Global;
-
-// How many rows the edge takes at least: two where it has a parallel, and else one.
-fn rows_of(flags: &IdVec<EdgeId, bool>, e: EdgeId) -> u32
-    requires { e.0 < length flags.now }
-    ensures double { slice_get flags.now e.0 ≡ Some true → result ≡ 2 }
-    ensures single { slice_get flags.now e.0 ≢ Some true → result ≡ 1 }
-    ensures from { 1 ≤ result }
-    ensures to { result ≤ 2 }
-{
-    if *flags.get(e) { 2 } else { 1 }
-}
 
 // The column of the spot between the ends of a bar.
 fn column_of(spot: Spot, lo: i64, hi: i64) -> i64
@@ -61,6 +52,7 @@ fn placed_polyline<F: Fn(EdgeId) -> u32, G: Fn(i64, i64) -> i64>(
     spot: Spot,
     graph: &StGraph,
     sides: &Sides,
+    _lengths: &IdVec<EdgeId, u32>,
     rows: &Weights<F>,
     placer: &Placer<G>,
     names: &Names,
@@ -69,41 +61,42 @@ fn placed_polyline<F: Fn(EdgeId) -> u32, G: Fn(i64, i64) -> i64>(
     requires names { AreNames sides.now names.now }
     requires weights { rows.now.edges ≡ edge_count sides.now }
     requires lawful { AreLawfulWeights F.pre F.post rows.now }
-    requires most { rows.now.most ≡ 2 }
+    requires most { rows.now.most ≤ MOST_LENGTH }
     requires long { IsLongOnParallels (F.post rows.now.closure) graph.now.map.graph }
-    requires rows { AnswersRows (F.post rows.now.closure) graph.now.map.graph }
+    requires rows { AnswersRows (F.post rows.now.closure) graph.now.map.graph (slice_index _lengths.now) }
     requires placement { IsPlacement G.pre G.post placer.now }
     requires places { AnswersPlaces spot (G.post placer.now.closure) }
     requires high { sides.now.vertices ≤ MOST_VERTICES }
     requires wide { edge_count sides.now ≤ MOST_EDGES }
-    ensures { IfOk result (IsPlacedPolyline spot graph.now.map.graph sides.now names.now) }
+    ensures { IfOk result (IsPlacedPolyline spot graph.now.map.graph (slice_index _lengths.now) sides.now names.now) }
 {
     laws::local(sides);
     polyline(alloc, graph, sides, rows, placer, names)
 }
 
-// The polyline picture, with each vertex at this spot of its bar. The flags tell which edges have a parallel.
-fn flagged_polyline(
+// The polyline picture, with each vertex at this spot of its bar. The rows are the lengths, spread for parallel edges.
+fn spread_polyline(
     alloc: Global,
     spot: Spot,
     graph: &StGraph,
     sides: &Sides,
+    lengths: &IdVec<EdgeId, u32>,
+    rows: &IdVec<EdgeId, u32>,
     names: &Names,
-    flags: &IdVec<EdgeId, bool>,
 ) -> Result<Picture, NoMemory>
     requires sides { IsSidesOf graph.now.map.graph graph.now.source graph.now.sink graph.now.outer sides.now }
     requires names { AreNames sides.now names.now }
-    requires flags { AreParallel graph.now.map.graph flags.now }
-    requires size { length flags.now ≡ edge_count sides.now }
+    requires rows { AreSpreadRows graph.now.map.graph lengths.now rows.now }
+    requires size { length rows.now ≡ edge_count sides.now }
+    requires fit { All IsLength rows.now }
     requires high { sides.now.vertices ≤ MOST_VERTICES }
     requires wide { edge_count sides.now ≤ MOST_EDGES }
-    ensures { IfOk result (IsPlacedPolyline spot graph.now.map.graph sides.now names.now) }
+    ensures { IfOk result (IsPlacedPolyline spot graph.now.map.graph (slice_index lengths.now) sides.now names.now) }
 {
-    let rows = |e: EdgeId| rows_of(flags, e);
-    let weights = Weights::new(rows, sides.edges(), 2);
+    let weights = Weights::new(|e: EdgeId| *rows.get(e), sides.edges(), MOST_LENGTH);
     let place = |lo: i64, hi: i64| column_of(spot, lo, hi);
     let placer = Placer::new(place);
-    placed_polyline(alloc, spot, graph, sides, &weights, &placer, names)
+    placed_polyline(alloc, spot, graph, sides, lengths, &weights, &placer, names)
 }
 
 // The polyline picture, with each vertex at this spot of its bar.
@@ -112,16 +105,19 @@ fn polyline_of(
     spot: Spot,
     graph: &StGraph,
     sides: &Sides,
+    lengths: &IdVec<EdgeId, u32>,
     names: &Names,
 ) -> Result<Picture, NoMemory>
     requires sides { IsSidesOf graph.now.map.graph graph.now.source graph.now.sink graph.now.outer sides.now }
     requires names { AreNames sides.now names.now }
+    requires size { length lengths.now ≡ edge_count sides.now }
+    requires lengths { All IsLength lengths.now }
     requires high { sides.now.vertices ≤ MOST_VERTICES }
     requires wide { edge_count sides.now ≤ MOST_EDGES }
-    ensures { IfOk result (IsPlacedPolyline spot graph.now.map.graph sides.now names.now) }
+    ensures { IfOk result (IsPlacedPolyline spot graph.now.map.graph (slice_index lengths.now) sides.now names.now) }
 {
-    let flags = parallel(alloc, graph)?;
-    flagged_polyline(alloc, spot, graph, sides, names, &flags)
+    let rows = spread(alloc, graph, lengths)?;
+    spread_polyline(alloc, spot, graph, sides, lengths, &rows, names)
 }
 
 // The dominance picture.
@@ -141,35 +137,66 @@ fn dominance_of(
     Ok(drawn.picture)
 }
 
-// The picture of the form, or why the paths can't be drawn. In the forms of bars each edge weighs 1.
+// The picture of the form, or why the paths can't be drawn. In the forms of bars an edge weighs its length.
 fn picture_of<F: Fn(EdgeId) -> u32>(
     alloc: Global,
     form: DrawForm,
     spec: &GraphSpec,
     graph: StGraph,
     sides: &Sides,
-    ones: &Weights<F>,
+    lengths: &IdVec<EdgeId, u32>,
+    rows: &Weights<F>,
     names: &Names,
 ) -> Result<Picture, Stop>
     requires tables { IsConsistent spec.now }
     requires found { IsFound spec.now graph }
     requires sides { AreSidesIn graph sides.now }
     requires names { AreNames sides.now names.now }
-    requires weights { ones.now.edges ≡ edge_count sides.now }
-    requires lawful { AreLawfulWeights F.pre F.post ones.now }
-    requires ones { ones.now.most ≡ 1 }
+    requires weights { rows.now.edges ≡ edge_count sides.now }
+    requires lawful { AreLawfulWeights F.pre F.post rows.now }
+    requires most { rows.now.most ≤ MOST_LENGTH }
+    requires rows { AnswersLengths (F.post rows.now.closure) spec.now }
+    requires lengths { lengths.now ≡ spec.now.lengths }
+    requires size { length lengths.now ≡ edge_count sides.now }
+    requires fit { All IsLength lengths.now }
     requires high { sides.now.vertices ≤ MOST_VERTICES }
     requires wide { edge_count sides.now ≤ MOST_EDGES }
     ensures picture { IfOk result (IsPictureOf form spec.now graph sides.now names.now) }
     ensures refused { StopsAt (AnswersDraw form spec.now graph) result }
 {
     match form {
-        DrawForm::Visibility => Ok(visibility(alloc, &graph, sides, ones, names)?),
-        DrawForm::Tessellation => Ok(tessellation(alloc, &graph, sides, ones, names)?),
-        DrawForm::Constrained => aligned_picture(alloc, spec, &graph, sides, ones, names),
-        DrawForm::Polyline(spot) => Ok(polyline_of(alloc, spot, &graph, sides, names)?),
+        DrawForm::Visibility => Ok(visibility(alloc, &graph, sides, rows, names)?),
+        DrawForm::Tessellation => Ok(tessellation(alloc, &graph, sides, rows, names)?),
+        DrawForm::Constrained => aligned_picture(alloc, spec, &graph, sides, rows, names),
+        DrawForm::Polyline(spot) => Ok(polyline_of(alloc, spot, &graph, sides, lengths, names)?),
         DrawForm::Dominance => Ok(dominance_of(alloc, graph, sides, names)?),
     }
+}
+
+// The same, where each edge weighs its length.
+fn weighed(
+    alloc: Global,
+    form: DrawForm,
+    spec: &GraphSpec,
+    graph: StGraph,
+    sides: &Sides,
+    lengths: &IdVec<EdgeId, u32>,
+    names: &Names,
+) -> Result<Picture, Stop>
+    requires tables { IsConsistent spec.now }
+    requires found { IsFound spec.now graph }
+    requires sides { AreSidesIn graph sides.now }
+    requires names { AreNames sides.now names.now }
+    requires lengths { lengths.now ≡ spec.now.lengths }
+    requires size { length lengths.now ≡ edge_count sides.now }
+    requires fit { All IsLength lengths.now }
+    requires high { sides.now.vertices ≤ MOST_VERTICES }
+    requires wide { edge_count sides.now ≤ MOST_EDGES }
+    ensures picture { IfOk result (IsPictureOf form spec.now graph sides.now names.now) }
+    ensures refused { StopsAt (AnswersDraw form spec.now graph) result }
+{
+    let rows = Weights::new(|e: EdgeId| *lengths.get(e), sides.edges(), MOST_LENGTH);
+    picture_of(alloc, form, spec, graph, sides, lengths, &rows, names)
 }
 
 /// The picture of the form, by the sides of the planar st-graph.
@@ -194,8 +221,15 @@ pub fn depict(
         Err(NoMemory) => return Err(Stop::NoMemory),
     };
     sides.facts();
-    let ones = Weights::new(|_e: EdgeId| 1u32, sides.edges(), 1);
-    match picture_of(alloc, form, spec, graph, &sides, &ones, spec.names()) {
+    match weighed(
+        alloc,
+        form,
+        spec,
+        graph,
+        &sides,
+        spec.lengths(),
+        spec.names(),
+    ) {
         Ok(picture) => {
             let _ = picture.items();
             Ok(picture)

@@ -76,7 +76,7 @@ fn refuses_other_words_of_generated_graphs(rt: HostRuntime) -> Result<(), Fail> 
     let alloc = rt.alloc();
     let rows = [
         "gen 1 0",
-        "gen 20001 7",
+        "gen 100001 7",
         "gen +2 7",
         "gen 2 18446744073709551616",
         "gen 2",
@@ -85,7 +85,7 @@ fn refuses_other_words_of_generated_graphs(rt: HostRuntime) -> Result<(), Fail> 
         "bench 2 7",
         "bench 2 7 polyline",
         "bench 2 7 visibility visibility",
-        "bench 20001 7 visibility",
+        "bench 100001 7 visibility",
     ];
     for line in &rows {
         let words = words_of(alloc, line)?;

@@ -9,11 +9,11 @@ ghost use Rattle.st_number.specs.Weighing.{AreLawfulWeights};
 ghost use Rattle.st_picture.specs.Naming.{AreNames};
 ghost use Rattle.st_sides.specs.Sides.{edge_count};
 ghost use Rattle.st_test.specs.Planar.{StValue};
-ghost use Rattle.stdraw_core.specs.Drawing.{IsAlignedPicture};
+ghost use Rattle.stdraw_core.specs.Drawing.{AnswersLengths, IsAlignedPicture};
 ghost use Rattle.stdraw_core.specs.Paths.{AreSidesIn, HasKnownEdges, paths_in};
 ghost use Rattle.st_verdict.specs.Stops.{IsStop, StopsAt};
 ghost use Rattle.st_verdict.specs.Verdict.{IsFound};
-ghost use Rattle.st_ids.specs.declared.limits.TheConstants.{MOST_VERTICES, MOST_EDGES};
+ghost use Rattle.st_ids.specs.declared.limits.TheConstants.{MOST_VERTICES, MOST_EDGES, MOST_LENGTH};
 ghost use Rattle.stdraw_core.specs.Drawing.{AnswersDraw};
 
 use draw_align::{PathFault, constrained};
@@ -87,16 +87,17 @@ pub fn aligned_picture<F: Fn(EdgeId) -> u32>(
     spec: &GraphSpec,
     graph: &StGraph,
     sides: &Sides,
-    ones: &Weights<F>,
+    rows: &Weights<F>,
     names: &Names,
 ) -> Result<Picture, Stop>
     requires tables { IsConsistent spec.now }
     requires found { IsFound spec.now graph.now }
     requires sides { AreSidesIn graph.now sides.now }
     requires names { AreNames sides.now names.now }
-    requires weights { ones.now.edges ≡ edge_count sides.now }
-    requires lawful { AreLawfulWeights F.pre F.post ones.now }
-    requires ones { ones.now.most ≡ 1 }
+    requires weights { rows.now.edges ≡ edge_count sides.now }
+    requires lawful { AreLawfulWeights F.pre F.post rows.now }
+    requires most { rows.now.most ≤ MOST_LENGTH }
+    requires rows { AnswersLengths (F.post rows.now.closure) spec.now }
     requires high { sides.now.vertices ≤ MOST_VERTICES }
     requires wide { edge_count sides.now ≤ MOST_EDGES }
     ensures picture { IfOk result (IsAlignedPicture spec.now sides.now names.now) }
@@ -106,7 +107,7 @@ pub fn aligned_picture<F: Fn(EdgeId) -> u32>(
         Ok(paths) => paths,
         Err(fault) => return Err(name_stop(spec, fault)),
     };
-    match constrained(alloc, graph, sides, ones, &paths, names) {
+    match constrained(alloc, graph, sides, rows, &paths, names) {
         Ok(picture) => Ok(picture),
         Err(fault) => Err(fault_stop(spec, graph, sides, &paths, fault)),
     }

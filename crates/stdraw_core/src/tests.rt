@@ -641,30 +641,30 @@ fn check_size(
 #[test]
 fn holds_to_the_limits(rt: HostRuntime) -> Result<(), Fail> {
     let alloc = rt.alloc();
-    let path = b"planar st-graph: 20000 vertices, 19999 edges, 1 faces, source 1, sink 20000\n";
-    check_size(&rt, alloc, file_of(alloc, 20_000, 0)?.bytes(), path, b"")?;
-    let bundle = b"planar st-graph: 2 vertices, 60000 edges, 60000 faces, source 1, sink 2\n";
-    check_size(&rt, alloc, file_of(alloc, 2, 59_999)?.bytes(), bundle, b"")?;
+    let path = b"planar st-graph: 100000 vertices, 99999 edges, 1 faces, source 1, sink 100000\n";
+    check_size(&rt, alloc, file_of(alloc, 100_000, 0)?.bytes(), path, b"")?;
+    let bundle = b"planar st-graph: 2 vertices, 300000 edges, 300000 faces, source 1, sink 2\n";
+    check_size(&rt, alloc, file_of(alloc, 2, 299_999)?.bytes(), bundle, b"")?;
     check_size(
         &rt,
         alloc,
-        file_of(alloc, 20_001, 0)?.bytes(),
+        file_of(alloc, 100_001, 0)?.bytes(),
         b"",
-        b"limit: 20001 vertices, at most 20000\n",
+        b"limit: 100001 vertices, at most 100000\n",
     )?;
     check_size(
         &rt,
         alloc,
-        file_of(alloc, 2, 60_000)?.bytes(),
+        file_of(alloc, 2, 300_000)?.bytes(),
         b"",
-        b"limit: 60001 edges, at most 60000\n",
+        b"limit: 300001 edges, at most 300000\n",
     )?;
-    let spaces = vec![in alloc; 32u8; 16_777_217]?;
+    let spaces = vec![in alloc; 32u8; 67_108_865]?;
     check_size(
         &rt,
         alloc,
         &spaces,
         b"",
-        b"limit: more than 16777216 bytes\n",
+        b"limit: more than 67108864 bytes\n",
     )
 }

@@ -1,6 +1,5 @@
-use Rattle.st_sides.specs.Sides.{edge_count}
-use Rattle.stdraw_core.proofs.DrawingLemmas.{all_ones}
-use Rattle.stdraw_core.proofs.PathLemmas.{aligned_by_ones, as_sides}
+use Rattle.stdraw_core.proofs.DrawingLemmas.{answers_there}
+use Rattle.stdraw_core.proofs.PathLemmas.{aligned_by, as_sides}
 use Rattle.stdraw_core.proofs.paths.aligned_picture.Goals as goal
 
 pub constrained-requires-clause-edges : goal.constrained-requires-clause-edges
@@ -14,5 +13,5 @@ returns-in-Err-clause-refused g c = c.name_stop.ensures c.args.graph.now
 
 pub returns-in-Ok-constrained-clause-picture : goal.returns-in-Ok-constrained-clause-picture
 returns-in-Ok-constrained-clause-picture g c =
-    aligned_by_ones _ c.args.spec.now c.args.sides.now c.in-Ok.paths c.in-Ok.ensures.paths c.in-Ok.ensures.known c.args.names.now c.in-Ok-constrained.picture
-    (all_ones _ _ c.args.ones.now c.requires.lawful c.requires.ones (edge_count c.args.sides.now) c.requires.weights) c.in-Ok-constrained.ensures.sound c.in-Ok-constrained.ensures.picture
+    aligned_by _ c.args.spec.now c.args.sides.now c.in-Ok.paths c.in-Ok.ensures.paths c.in-Ok.ensures.known c.args.names.now c.in-Ok-constrained.picture
+    (answers_there _ c.args.spec.now c.args.graph.now c.args.sides.now c.requires.tables c.requires.found c.requires.sides.sides c.requires.rows) c.in-Ok-constrained.ensures.sound c.in-Ok-constrained.ensures.picture
