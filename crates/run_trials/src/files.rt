@@ -1,0 +1,54 @@
+//! The files of the trials.
+
+/// Two vertices and one edge.
+pub const EDGE: &str = "graph [ node [ id 1 ] node [ id 2 ] edge [ source 1 target 2 ] ]\n";
+
+/// Three vertices whose edges form a cycle.
+pub const CYCLE: &str =
+    "graph [ node [ id 1 ] node [ id 2 ] node [ id 3 ] edge [ source 1 target 2 ] edge [ source 2 target 3 ] edge [ source 3 target 1 ] ]\n";
+
+/// A file in the manner of yEd.
+pub const NESTED: &str =
+    "Creator \"yFiles\"\nVersion \"2.17\"\ngraph\n[\n  hierarchic 1\n  label \"\"\n  directed 1\n  node\n  [\n    id 0\n    label \"A\"\n    graphics\n    [\n      x 12.5\n      y 30.0\n      type \"rectangle\"\n      fill \"#FFCC00\"\n    ]\n  ]\n  node\n  [\n    id 1\n    label \"B (1)\"\n  ]\n  edge\n  [\n    source 0\n    target 1\n    graphics\n    [\n      fill \"#000000\"\n      targetArrow \"standard\"\n    ]\n  ]\n]\n";
+
+/// Files with one fault, each with its line.
+pub const FAULTY: [(&str, &str); 20] = [
+    ("", "gml: no graph\n"),
+    ("graph [ node [ id 1 label \"A", "gml: open string at 26\n"),
+    ("graph [ node [ id 1 ]", "gml: unclosed list at 6\n"),
+    ("graph", "gml: key without value at 0\n"),
+    ("graph [ ] ]", "gml: stray token at 10\n"),
+    ("graph [ x 9223372036854775808 ]", "gml: big number at 10\n"),
+    ("graph [ x 1e ]", "gml: bad number at 10\n"),
+    ("graph [ x @ ]", "gml: bad byte at 10\n"),
+    (
+        "a [ a [ a [ a [ a [ a [ a [ a [ a [ a [ a [ a [ a [ a [ a [ a [ a [ a [ a [ a [ a [ a [ a [ a [ a [ a [ a [ a [ a [ a [ a [ a [ a [ ",
+        "gml: list too deep at 130\n",
+    ),
+    ("graph [ ] graph [ ]", "gml: second graph at 10\n"),
+    (
+        "graph [ node [ id 1.5 ] ]",
+        "gml: wrong kind of value at 15\n",
+    ),
+    ("graph [ node [ ] ]", "gml: node without id at 8\n"),
+    (
+        "graph [ node [ id 1 ] node [ id 1 ] ]",
+        "gml: node id 1 twice\n",
+    ),
+    ("graph [ edge [ source 1 ] ]", "gml: edge 0 lacks an end\n"),
+    (
+        "graph [ node [ id 1 ] node [ id 2 ] edge [ source 1 target 3 ] ]",
+        "gml: edge 0 ends at unknown node 3\n",
+    ),
+    (
+        "graph [ node [ id 1 ] node [ id 2 ] edge [ id 7 source 1 target 2 ] edge [ id 7 source 1 target 2 ] ]",
+        "gml: edge id 7 twice\n",
+    ),
+    (
+        "graph [ node [ id 1 order [ e 5 ] ] ]",
+        "gml: unknown edge at 28\n",
+    ),
+    ("graph [ outer [ edge 0 ] ]", "gml: bad outer at 8\n"),
+    ("graph [ x [ y \"", "gml: open string at 14\n"),
+    ("graph [ x ]", "gml: key without value at 8\n"),
+];
