@@ -1,8 +1,8 @@
 #!/bin/sh
-# A table of drawings: generated graphs of 1,000, 5,000 and 20,000 vertices in every form, and a strip at the limits.
+# A table of drawings: generated graphs of 1,000, 10,000 and 100,000 vertices in every form, and a strip at the limits.
 #
-# The graphs are those of `gen N 1`, with about 1.5 edges a vertex. The strip (strip.sh) has 20,000 vertices and 60,000 edges: each
-# vertex has an edge to the next but one, and two to the next.
+# The graphs are those of `gen N 1`, with about 1.5 edges a vertex. The strip (strip.sh) has 100,000 vertices and 300,000 edges:
+# each vertex has an edge to the next but one, and two to the next.
 #
 # Prints one row a drawing: seconds of processor time, megabytes at most, bytes written, and the ratio of the time to that of
 # copying as many bytes as are read and written.
@@ -38,7 +38,7 @@ rows() {
 
 echo "| Graph | Form | Vertices | Edges | Seconds | Megabytes | Bytes | Ratio to a copy |"
 echo "|---|---|---|---|---|---|---|---|"
-for n in 1000 5000 20000; do
+for n in 1000 10000 100000; do
     "$program" gen "$n" 1 >"$work/graph.gml" || exit 1
     rows "gen $n 1"
 done

@@ -1,7 +1,7 @@
 #!/bin/sh
 # Files just under the limit of bytes, with two vertices and one edge: nearly all of the time is reading.
 #
-# Makes three files of nearly 16,777,216 bytes each, with unknown keys in the graph:
+# Makes three files of nearly 67,108,864 bytes each, with unknown keys in the graph:
 #   ordinary   nested lists with reals and strings, as drawing programs write them
 #   dense      the shortest pairs that there are, `a 1`, the most pairs for the bytes
 #   text       one long string
@@ -15,7 +15,7 @@ program=${STDRAW:-$here/../crates/stdraw/out/stdraw}
 make() {
     awk -v filler="$1" 'BEGIN {
         head = "graph [ node [ id 1 ] node [ id 2 ] edge [ source 1 target 2 ]\n"
-        times = int((16777216 - length(head) - 8) / (length(filler) + 1))
+        times = int((67108864 - length(head) - 8) / (length(filler) + 1))
         printf "%s", head
         for (k = 0; k < times; k++) print filler
         print "]"
@@ -25,8 +25,8 @@ make 'graphics [ x 12.5 y -30.0 type "rectangle" fill "#FFCC00" point [ x 1e+06 
 make 'a 1' >"$work/dense.gml"
 awk 'BEGIN {
     printf "graph [ node [ id 1 ] node [ id 2 ] edge [ source 1 target 2 ]\ntext \""
-    for (k = 0; k < 262100; k++) print "Lines of a text, that is in quotes, and has ] and # and more in it."  substr("                ", 1, k % 2)
-}' | head -c 16777000 >"$work/text.gml"
+    for (k = 0; k < 1048400; k++) print "Lines of a text, that is in quotes, and has ] and # and more in it."  substr("                ", 1, k % 2)
+}' | head -c 67108000 >"$work/text.gml"
 printf '"\n]\n' >>"$work/text.gml"
 for name in ordinary dense text; do
     answer=$("$program" query 1 2 <"$work/$name.gml")

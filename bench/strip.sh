@@ -1,7 +1,7 @@
 #!/bin/sh
-# Writes a planar st-graph at the limits, about 2.4 MB of GML, listed in an order that is bad for passes.
+# Writes a planar st-graph at the limits, about 12 MB of GML, listed in an order that is bad for passes.
 #
-# It has 20,000 vertices, named 1 to 20000, and 60,000 edges. It is a strip of triangles between a left side, the odd
+# It has 100,000 vertices, named 1 to 100000, and 300,000 edges. It is a strip of triangles between a left side, the odd
 # vertices, and a right side, the even ones. From each vertex v lead one edge to v + 2 up the side and two to v + 1 across,
 # six from vertex 1. The edges of the left side are listed first, then those across, then those of the right side, so that
 # at each vertex the order of the file goes from left to right. Each group is listed from the last vertex down to the first,
@@ -10,7 +10,7 @@
 awk '
     function edge(from, to) { print "edge [ source " from " target " to " ]" }
     BEGIN {
-        n = 20000
+        n = 100000
         print "graph ["
         for (v = 1; v <= n; v++) print "node [ id " v " ]"
         for (v = n - 3; v >= 1; v -= 2) edge(v, v + 2)

@@ -29,7 +29,7 @@ LINES = {
         f"not st: order at vertex {NUMBER}", "not st: faces: [0-9]+ vertices, [0-9]+ edges, [0-9]+ faces",
         "not st: outer face misses the (source|sink|source and the sink)"],
     3: ["gml: (bad byte|open string|bad number|big number|key without value|stray token|list too deep|unclosed list) at [0-9]+",
-        "gml: no graph", "gml: (second graph|wrong kind of value|node without id|unknown edge|bad outer) at [0-9]+",
+        "gml: no graph", "gml: (second graph|wrong kind of value|node without id|unknown edge|bad outer|bad minlen) at [0-9]+",
         f"gml: (node|edge) id {NUMBER} twice", "gml: edge [0-9]+ lacks an end", f"gml: edge [0-9]+ ends at unknown node {NUMBER}"],
     4: ["limit: more than [0-9]+ bytes", "limit: [0-9]+ (vertices|edges), at most [0-9]+"],
     8: [f"path: [0-9]+ names unknown edge {NUMBER}", "path: [0-9]+ is no directed path", f"path: [0-9]+ shares edge {NUMBER}",
@@ -40,8 +40,8 @@ LINES = {
     13: ["no orientation: one vertex for both poles", f"no orientation: (edge {NUMBER} is a loop|vertex {NUMBER} is apart|vertex {NUMBER} cuts off vertex {NUMBER})"],
 }
 LINE_OF = {status: re.compile(("(" + "|".join(lines) + ")\n").encode()) for status, lines in LINES.items()}
-WORDS = [b"graph", b"node", b"edge", b"id", b"source", b"target", b"label", b"order", b"outer", b"path", b"e", b"side", b"[", b"]", b'"', b"-",
-         b"1.5", b"9223372036854775807", b"9223372036854775808", b"-9223372036854775808", b"0", b"1", b"2", b"\xef\xbb\xbf", b"\x00", b"\xff", b"#", b"\n"]
+WORDS = [b"graph", b"node", b"edge", b"id", b"source", b"target", b"label", b"order", b"outer", b"path", b"e", b"side", b"minlen", b"[", b"]", b'"', b"-",
+         b"1.5", b"500", b"501", b"9223372036854775807", b"9223372036854775808", b"-9223372036854775808", b"0", b"1", b"2", b"\xef\xbb\xbf", b"\x00", b"\xff", b"#", b"\n"]
 
 
 def seeds(program):

@@ -19,7 +19,7 @@ HERE = os.path.dirname(os.path.abspath(__file__))
 TOP = os.path.dirname(HERE)
 EXAMPLES = os.path.join(TOP, "examples")
 ROWS = [
-    ("test", "bridge"), ("query 2 3 1 4", "diamond"), ("draw visibility", "plan"), ("draw tessellation", "divisors"),
+    ("test", "bridge"), ("query 2 3 1 4", "diamond"), ("draw visibility", "plan"), ("draw visibility", "durations"), ("test", "err_minlen"), ("draw tessellation", "divisors"),
     ("draw constrained", "critical_path"), ("draw polyline left", "parallel"), ("draw polyline middle", "divisors"),
     ("draw polyline right", "flow_chart"), ("draw dominance", "divisors"), ("test", "err_cycle"), ("test", "err_two_sources"),
     ("test", "err_order"), ("test", "err_faces"), ("test", "err_outer"), ("draw constrained", "err_path_crossing"),

@@ -1,10 +1,10 @@
 #!/bin/sh
 # Runs the commands of the documents, and compares what they print.
 #
-# A fenced block of the kind `console` has commands, each behind `$ `, and below each what it prints on both streams. The
-# commands of a block run in one shell, in a folder where ./stdraw is the built program and examples/ is at hand.
-# Every link to a file of the repository is looked up too. Ends with 0 where all agree; without the built program the
-# commands are skipped. STDRAW names another program to be asked, by its whole path.
+# A fenced block of the kind `console` has commands, each behind `$ `, with lines behind `> ` that go on with it, and below
+# each what it prints on both streams. The commands of a block run in one shell, in a folder where ./stdraw is the built
+# program and examples/ is at hand. Every link to a file of the repository is looked up too. Ends with 0 where all agree;
+# without the built program the commands are skipped. STDRAW names another program to be asked, by its whole path.
 top=$(CDPATH='' cd "$(dirname "$0")/.." && pwd) || exit 1
 program=${STDRAW:-$top/crates/stdraw/out/stdraw}
 failed=0
@@ -28,10 +28,14 @@ take_block() {
         /^```/ { if (open) { open = 0 } else if ($0 == "```console") { count++; open = count == n } else { open = 0 } ; next }
         open {
             print > wanted
-            if (substr($0, 1, 2) == "$ ") {
-                line = substr($0, 3)
-                print "status=$?; cat <<'\''END_OF_LINE'\''\n$ " line "\nEND_OF_LINE\n(exit $status)\n" line > commands
-            }
+            if (substr($0, 1, 2) == "$ ") { flush(); line = substr($0, 3); shown = $0; next }
+            if (line != "" && substr($0, 1, 2) == "> ") { line = line "\n" substr($0, 3); shown = shown "\n" $0; next }
+            flush()
+        }
+        END { flush() }
+        function flush() {
+            if (line != "") print "status=$?; cat <<'\''END_OF_LINE'\''\n" shown "\nEND_OF_LINE\n(exit $status)\n" line > commands
+            line = ""
         }' "$1"
 }
 

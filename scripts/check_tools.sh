@@ -45,5 +45,9 @@ for form in visibility tessellation "polyline middle" dominance; do
     [ "$items" = "$(grep -c '^%[vefl] ' "$work/wide.eps")" ] || say "wide.awk loses an item of draw $form"
     [ "$items" = "$(grep -c -e '<path' -e '<circle' -e '<text' "$work/wide.svg")" ] || say "svg.awk loses an item of draw $form"
 done
+# The files of eight writers come to pictures by the guide's cures.
+python3 -B "$top/examples/tools/try_writers.py" "$program" >"$work/out" 2>&1 || say "$(cat "$work/out")"
+tried=$((tried + 1))
+
 echo "check_tools: $tried tries"
 exit $failed

@@ -20,7 +20,7 @@ shot() {
         -sOutputFile="$top/docs/pictures/$1.png" "$work/picture.eps" || exit 1
 }
 
-for pair in divisors.visibility plan.visibility circuit.visibility review.visibility divisors.tessellation plan.tessellation \
+for pair in divisors.visibility plan.visibility durations.visibility circuit.visibility review.visibility divisors.tessellation plan.tessellation \
     circuit.tessellation critical_path.constrained divisors.polyline_left divisors.polyline_middle divisors.polyline_right \
     plan.polyline_middle divisors.dominance; do
     name=${pair%%.*}
@@ -30,6 +30,9 @@ for pair in divisors.visibility plan.visibility circuit.visibility review.visibi
     "$program" draw $(echo "$form" | tr _ ' ') <"$top/examples/$name.gml" >"$work/picture.eps" || exit 1
     shot "$pair"
 done
+
+"$program" orient 1 3 <"$top/examples/cube.gml" | "$program" draw polyline middle >"$work/picture.eps" || exit 1
+shot cube.polyline_middle
 
 # The gallery: name, form, how wide, how high, bold edges.
 gallery() {

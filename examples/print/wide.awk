@@ -49,8 +49,7 @@ END {
     print head[1]
     print "%%BoundingBox: 0 0 " int(width + 1) " " int(height + 1)
     for (i = 2; i <= heads; i++) print head[i]
-    print "/onwhite { dup gsave false charpath 1 setgray 3 setlinewidth stroke grestore"
-    print "  show } bind def"
+    print "/onwhite { dup stringwidth pop gsave 1 setgray currentpoint 2 sub 3 -1 roll 10 rectfill grestore show } bind def"
     for (i = 1; i <= lines; i++) print body[i]
     print "%%EOF"
 }

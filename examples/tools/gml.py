@@ -48,14 +48,21 @@ def paths(graph):
     return [[place[name] for name in all_of(path, "e") if name in place] for path in all_of(graph, "path")]
 
 
-def write(labels, orders, ends, paths, out):
-    """The graph as GML that stdraw takes, with the order of the edges at each vertex."""
+def lengths(graph):
+    """The `minlen` of each edge, or None where it has none."""
+    return [one(edge, "minlen") for edge in all_of(graph, "edge")]
+
+
+def write(labels, orders, ends, graph, out):
+    """The graph as GML that stdraw takes: with orders, and with paths and lengths of the graph that was read."""
+    least = dict(enumerate(lengths(graph)))
     print("graph [ directed 1", file=out)
     for vertex, label in labels.items():
         around = "".join(f" e {edge}" for edge in orders[vertex])
         print(f"node [ id {vertex} label {label} order [{around} ] ]", file=out)
     for edge, (tail, head) in enumerate(ends):
-        print(f"edge [ id {edge} source {tail} target {head} ]", file=out)
-    for path in paths:
+        length = f" minlen {least[edge]}" if least.get(edge) else ""
+        print(f"edge [ id {edge} source {tail} target {head}{length} ]", file=out)
+    for path in paths(graph):
         print("path [" + "".join(f" e {edge}" for edge in path) + " ]", file=out)
     print("]", file=out)

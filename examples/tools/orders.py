@@ -1,12 +1,13 @@
 #!/usr/bin/env python3
 """orders.py < ANY.gml > ORDERED.gml: finds the order of the edges at each vertex, so that stdraw can draw the graph.
 
-Takes any directed graph without a cycle. Where it has several sources, a vertex `0` with an edge to each of them is added,
-and a vertex `1` above several sinks. NetworkX looks for an embedding with both poles on one face. Each such embedding
-is one that stdraw draws, so the answer is final: where none is found, the graph has no drawing with rising edges, no
-crossings and both poles on the outside.
+Takes any directed graph without a cycle. Where it has several sources, a vertex `0` with an edge to each of them is
+added, and a vertex `1` above several sinks. NetworkX looks for an embedding with both poles on one face. Each such
+embedding is one that stdraw draws, so the answer is final: where none is found, the graph has no drawing with rising
+edges, no crossings and both poles on the outside.
 
-Needs NetworkX. It is no part of what is proved of stdraw: `./stdraw test` says whether the orders that it found are right.
+Needs NetworkX. It is no part of what is proved of stdraw: `./stdraw test` says whether the orders that it found are
+right.
 """
 import sys
 
@@ -26,7 +27,7 @@ def pole(labels, ends, free, label, edge_to):
 
 
 def orders_of(labels, ends, source, sink):
-    """The edges at each vertex clockwise, those of the source from the outer face on; None where there is no embedding."""
+    """The edges at each vertex clockwise, the source's from the outer face on; None where there is no embedding."""
     between = {}
     for edge, pair in enumerate(ends):
         between.setdefault(pair, []).append(edge)
@@ -63,7 +64,7 @@ def main():
     orders = orders_of(labels, ends, source, sink)
     if orders is None:
         sys.exit("orders: the graph has no drawing without crossings and with both poles on the outside")
-    gml.write(labels, orders, ends, gml.paths(graph), sys.stdout)
+    gml.write(labels, orders, ends, graph, sys.stdout)
 
 
 if __name__ == "__main__":

@@ -1,10 +1,11 @@
 #!/usr/bin/env python3
-"""places.py < DRAWN.gml > ORDERED.gml: writes the orders that a drawing shows, by its coordinates.
+"""places.py [up] < DRAWN.gml > ORDERED.gml: writes the orders that a drawing shows, by its coordinates.
 
-For files of yEd, and of Graphviz after `dot`: each node has `graphics` with x and y, and an edge may have a line with
-bends. At each vertex the edges are sorted clockwise by the angle of their first bend, from the direction to the sink on.
-Where the drawing has crossings, `./stdraw test` refuses what comes out with the line on faces; orders.py finds orders
-then. Needs Python alone. It is no part of what is proved of stdraw.
+For files of yEd, OGDF and Tulip, and of Graphviz after `dot`: each node has `graphics` with x and y, and an edge may
+have a line with bends. y grows downwards, or upwards with the word `up`, as in Tulip. At each vertex the edges are
+sorted clockwise by the angle of their first bend, from the direction to the sink on. Where the drawing has crossings,
+`./stdraw test` refuses what comes out with the line on faces; orders.py finds orders then. Needs Python alone. It is
+no part of what is proved of stdraw.
 """
 import math
 import sys
@@ -44,16 +45,17 @@ def main():
     if len(lowest) != 1 or len(highest) != 1:
         sys.exit(f"places: {len(lowest)} sources and {len(highest)} sinks, where one of each is wanted")
     (x_low, y_low), (x_high, y_high) = spots[lowest[0]], spots[highest[0]]
-    away = math.atan2(y_low - y_high, x_low - x_high)
+    # where y grows downwards, angles grow clockwise
+    sign = -1 if sys.argv[1:] == ["up"] else 1
+    away = math.atan2(sign * (y_low - y_high), x_low - x_high)
 
-    # y grows downwards in these files, so angles grow clockwise
     def turn(vertex, spot):
         x, y = spots[vertex]
-        return (math.atan2(spot[1] - y, spot[0] - x) - away) % (2 * math.pi)
+        return (math.atan2(sign * (spot[1] - y), spot[0] - x) - away) % (2 * math.pi)
 
     orders = {vertex: [edge for spot, edge in sorted(at, key=lambda each: turn(vertex, each[0]))]
               for vertex, at in around.items()}
-    gml.write(labels, orders, ends, gml.paths(graph), sys.stdout)
+    gml.write(labels, orders, ends, graph, sys.stdout)
 
 
 if __name__ == "__main__":

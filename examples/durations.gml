@@ -1,0 +1,17 @@
+# The plan of plan.gml, with the weeks that each task takes.
+graph [
+node [ id 1 label "go" ] node [ id 2 label "plan" ]
+node [ id 3 label "site" ] node [ id 4 label "base" ]
+node [ id 5 label "roof" ] node [ id 6 label "panes" ]
+node [ id 7 label "light" ] node [ id 8 label "in" ]
+edge [ source 1 target 2 minlen 2 label "draw" ]
+edge [ source 1 target 3 label "clear" ]
+edge [ source 2 target 6 minlen 6 label "order windows" ]
+edge [ source 2 target 4 label "mark out" ]
+edge [ source 3 target 4 minlen 3 label "dig and pour" ]
+edge [ source 4 target 5 minlen 4 label "build" ]
+edge [ source 5 target 6 label "fit windows" ]
+edge [ source 5 target 7 minlen 2 label "wire" ]
+edge [ source 6 target 8 minlen 2 label "paint" ]
+edge [ source 7 target 8 minlen 2 label "test" ]
+]
