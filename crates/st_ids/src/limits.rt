@@ -14,6 +14,9 @@ pub const MOST_EDGES: u32 = 300_000;
 /// The most pairs of a query.
 pub const MOST_PAIRS: usize = 1_000;
 
+/// The most records of a session.
+pub const MOST_RECORDS: u32 = 1_000;
+
 /// The greatest least length of an edge; the least is 1.
 pub const MOST_LENGTH: u32 = 500;
 
