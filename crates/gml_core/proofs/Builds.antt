@@ -1,6 +1,6 @@
 -- The words and the places that a builder keeps, as tokens come.
-use Rattle.std.proofs.Common.{◌≡◌, ℕ, ◌<◌, ◌≤◌, Bool, true, false, cond, ℤ, List, [], ◌∷◌, ◌++◌, length, map, reverse, take, drop, Some, None, Result, Ok, Err, refl, sym, ap, subst, ◌∙◌, append_assoc, arith}
-use Rattle.std.specs.Prelude.{IsTrue, nat_le, OnOk, OnErr}
+use Rattle.std.proofs.Common.{◌≡◌, ℕ, ◌<◌, ◌≤◌, Bool, true, false, cond, ℤ, List, [], ◌∷◌, ◌++◌, length, map, reverse, take, drop, Some, None, Ok, Err, refl, sym, ap, subst, ◌∙◌, append_assoc, arith}
+use Rattle.std.specs.Prelude.{IsTrue, nat_le}
 use Rattle.std.proofs.lemmas.Option.{cond_some}
 use Rattle.std.proofs.lemmas.Bool.{lt-ltb, le-ltb, le-leb, leb-true}
 use Rattle.std.proofs.Math.Seq.{take-length, drop-length}
@@ -53,16 +53,8 @@ pub nested_last : (fs : List Frame) (f : Frame) (n : ℕ) → IsTrue (nested (re
 nested_last fs f n h = nested_within (reverse fs) f n (subst (λ (l : List Frame). IsTrue (nested l n)) (reverse-append fs (f ∷ [])) h)
 
 -- the innermost list is taken off a stack
-pub first_within : (ss fs : List Frame) (f : Frame) (n : ℕ) → ss ≡ fs ++ f ∷ [] → IsTrue (nested (reverse ss) n) → f.start ≤ n
-first_within ss fs f n e h = (nested_last fs f n (subst (λ (l : List Frame). IsTrue (nested (reverse l) n)) e h)).0
-
 pub nested_popped : (ss fs : List Frame) (f : Frame) (n m : ℕ) → ss ≡ fs ++ f ∷ [] → IsTrue (nested (reverse ss) n) → f.start ≤ m → IsTrue (nested (reverse fs) m)
 nested_popped ss fs f n m e h le = nested_more (reverse fs) f.start m le (nested_last fs f n (subst (λ (l : List Frame). IsTrue (nested (reverse l) n)) e h)).1
-
--- where a list is cut at n, or stays as it was, n elements are left
-pub split_within : {A E V : Type 0} (r : Result A E) (v w : V) (len : V → ℕ) (n : ℕ) → OnOk r (len v ≡ n) → OnErr r (v ≡ w) → n ≤ len w → n ≤ len v
-split_within (Ok x) v w len n ok err le = omega (arith, ok)
-split_within (Err e) v w len n ok err le = let same : len v ≡ len w = ap len err in omega (arith, same, le)
 
 -- one pair more, in the innermost list
 open_push : (fs : List Frame) (ps : List Pair) (p : Pair) → IsTrue (nested fs (length ps)) → open_words fs (ps ++ p ∷ []) ≡ open_words fs ps ++ entry_spelling (entry_view p)

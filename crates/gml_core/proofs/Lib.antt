@@ -24,4 +24,6 @@ mod TreeRead
 mod Wholes
 mod Looked
 mod Pairs
+mod Gaps
+mod NumberForms
 pub mod Public

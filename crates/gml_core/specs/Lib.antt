@@ -1,5 +1,6 @@
 pub mod Bytes
 pub mod Lexing
+pub mod Forms
 pub mod Trees
 pub mod Views
 pub mod Reading

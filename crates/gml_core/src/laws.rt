@@ -1,11 +1,15 @@
 //! What the definitions of texts say together. Each function does nothing, and its contract is a law.
 
-ghost use Rattle.std.specs.Prelude.{◌≡◌, ℕ, ◌++◌, ◌∷◌, [], List, map, Some, None, Ok, ◌⊎◌};
+ghost use Rattle.std.specs.Prelude.{◌≡◌, ◌≤◌, ℕ, ◌++◌, ◌∷◌, [], List, length, map, take, Some, None, Ok, ◌⊎◌};
 ghost use Rattle.gml_core.specs.declared.token.Token.{Token};
 ghost use Rattle.gml_core.specs.declared.fault.GmlFault.{GmlFault};
 ghost use Rattle.gml_core.specs.Trees.{Entries, Word, spelling};
-ghost use Rattle.gml_core.specs.Lexing.{next_token, AreTokens, IsFaultyToken};
+ghost use Rattle.gml_core.specs.Bytes.{number_kind};
+ghost use Rattle.gml_core.specs.Forms.{IsGap, IsIntegerRun, IsRealRun};
+ghost use Rattle.gml_core.specs.Lexing.{gap, next_token, AreTokens, IsFaultyToken};
 ghost use Rattle.gml_core.specs.Reading.{word, State, begin, Moves, IsBounded, IsText, IsFirstFault};
+
+use crate::token::TokenKind;
 
 /// All bytes have exactly one of a list of tokens and a faulty token.
 pub fn one_cut()
@@ -37,4 +41,18 @@ pub fn none_goes_on()
 pub fn some_goes_on()
     ensures { (bytes : List ℕ) (ts : List Token) (s : State) → Moves bytes begin ts s
         → (others : List Word) × (tree : Entries) × IsBounded tree × (spelling tree ≡ map (word bytes) ts ++ others) }
+{}
+
+/// What is passed before a token is the longest list of white space and comments there.
+pub fn longest_gap()
+    ensures gap { (bytes : List ℕ) → IsGap (take (gap bytes) bytes) }
+    ensures longest { (g rest : List ℕ) → IsGap g → length g ≤ gap (g ++ rest) }
+{}
+
+/// What the run of a number is, by its parts.
+pub fn number_forms()
+    ensures integer { (run : List ℕ) → number_kind run ≡ Some TokenKind.Int → IsIntegerRun run }
+    ensures real { (run : List ℕ) → number_kind run ≡ Some TokenKind.Real → IsRealRun run }
+    ensures every_integer { (run : List ℕ) → IsIntegerRun run → number_kind run ≡ Some TokenKind.Int }
+    ensures every_real { (run : List ℕ) → IsRealRun run → number_kind run ≡ Some TokenKind.Real }
 {}

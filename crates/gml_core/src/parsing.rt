@@ -3,7 +3,7 @@
 //! A `Builder` takes one token at a time. It holds the open lists in a stack, so that no call nests with the input, and
 //! names the fault of a token that it does not take.
 
-ghost use Rattle.std.specs.Prelude.{◌≡◌, ◌≢◌, ◌<◌, ◌≤◌, ◌+◌, ◌-◌, ◌^◌, [], None, Some, Err, OnOk, IfOk, IfErr, MatchResult, ◌⊎◌, IsTrue, length, reverse};
+ghost use Rattle.std.specs.Prelude.{◌≡◌, ◌≢◌, ◌<◌, ◌≤◌, ◌+◌, ◌-◌, ◌^◌, [], None, Some, Err, OnOk, IfOk, IfErr, MatchResult, ◌⊎◌, IsTrue, length, take, drop, reverse};
 ghost use Rattle.gml_core.specs.Reading.{said_by, step_at, end_fault, IsText, IsFirstFault};
 ghost use Rattle.gml_core.specs.Nested.{nested};
 ghost use Rattle.gml_core.specs.Views.{view};
@@ -23,7 +23,8 @@ use crate::tree::{
 use sqlite_items::Items;
 use st_ids::Text;
 use st_ids::limits::MOST_DEPTH;
-use std::alloc::Global;
+use std::alloc::{AllocError, Global};
+use std::mem;
 
 /// A list that is not read to its end: its key, where the key and the list begin, and how many pairs stand before its own.
 #[derive(Drop)]
@@ -48,6 +49,24 @@ pub struct Builder {
     pairs: Vec<Pair>,
     pub(crate) waits: Option<Waiting>,
     ghost nested: { IsTrue (nested (reverse stack.items) (length pairs.items)) },
+}
+
+/// Cuts off the pairs from a place on. The shorter part moves, so that a long list keeps the block where it was read.
+fn cut_off(pairs: &mut Vec<Pair>, start: usize) -> Result<Vec<Pair>, AllocError>
+    requires { start ≤ length pairs.old.items }
+    ensures front { OnOk result (pairs.new.items ≡ take start pairs.old.items) }
+    ensures tail { IfOk result (λ inner. inner.items ≡ drop start pairs.old.items) }
+    ensures left { start ≤ length pairs.new.items }
+{
+    let count = pairs.len() - start;
+    if count <= start {
+        return pairs.split_off(start);
+    }
+    pairs.rotate_left(start);
+    let front = pairs.split_off(count)?;
+    let mut inner = mem::replace(pairs, front);
+    inner.shrink_to_fit();
+    Ok(inner)
 }
 
 impl Builder {
@@ -76,7 +95,7 @@ impl Builder {
             None => Err(GmlFault::Stray { at }),
             Some(frame) => {
                 let Frame { key, at, start, .. } = frame;
-                let inner = Items::from_vec(self.pairs.split_off(start)?);
+                let inner = Items::from_vec(cut_off(&mut self.pairs, start)?);
                 let pair = make_pair(key, at, list_value(make_tree(inner, alloc)));
                 self.pairs.push(pair)?;
                 Ok(())

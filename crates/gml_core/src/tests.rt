@@ -185,6 +185,28 @@ fn prints_what_was_pushed(rt: HostRuntime) -> Result<(), Fail> {
     Ok(())
 }
 
+#[test]
+#[tactic(auto, unfolding(crate::specs::Lexing::token_at))]
+fn prints_the_shortest_and_the_longest_integer(rt: HostRuntime) -> Result<(), Fail> {
+    let rows: [(i64, &str); 5] = [
+        (0, "n 0\n"),
+        (-1, "n -1\n"),
+        (i64::MAX, "n 9223372036854775807\n"),
+        (-i64::MAX, "n -9223372036854775807\n"),
+        (i64::MIN, "n -9223372036854775808\n"),
+    ];
+    for (n, line) in rows {
+        let mut tree = Tree::new(rt.alloc());
+        tree.push_int(b"n", n)?;
+        assert_eq!(rt;
+            print(rt.alloc(), &tree)?.bytes(),
+            line.as_bytes(),
+            "{line}"
+        );
+    }
+    Ok(())
+}
+
 /// What is said of the bytes, fed in two pieces.
 fn said_in_two(alloc: Global, first: &[u8], second: &[u8]) -> Result<String, Fail>
     requires { length first.now + length second.now < 2 ^ 32 }

@@ -75,26 +75,12 @@ pub fn str_value(text: Text) -> Value
     Value::Str(text)
 }
 
-/// Appends a pair. An empty list gets room for one, since most lists inside others are short.
-pub fn append(alloc: Global, pairs: &mut Items<Pair>, pair: Pair) -> Result<(), AllocError>
-    ensures ok { OnOk result (pairs.new ≡ pairs.old ++ pair ∷ []) }
-    ensures err { OnErr result (pairs.new ≡ pairs.old) }
-{
-    if pairs.is_empty() {
-        let mut first = Vec::with_capacity(alloc, 1)?;
-        first.push(pair)?;
-        *pairs = Items::from_vec(first);
-        return Ok(());
-    }
-    pairs.push(pair)
-}
-
 #[tactic(auto, using(crate::proofs::Pushes::entries_push))]
-fn push_pair(alloc: Global, pairs: &mut Items<Pair>, pair: Pair) -> Result<(), AllocError>
+fn push_pair(pairs: &mut Items<Pair>, pair: Pair) -> Result<(), AllocError>
     ensures ok { OnOk result (entries pairs.new ≡ push (entries pairs.old) (entry_view pair)) }
     ensures err { OnErr result (pairs.new ≡ pairs.old) }
 {
-    append(alloc, pairs, pair)
+    pairs.push(pair)
 }
 
 #[tactic(auto, using(crate::proofs::Pushes::length_listed))]
@@ -124,6 +110,18 @@ impl Tree {
             pairs: Items::new(alloc),
             alloc,
         }
+    }
+
+    /// The empty list, with room for so many pairs: as many are appended without a new block.
+    ///
+    /// Errors: `NoMemory`.
+    /// Cost: one block, and none for no pairs.
+    pub fn with_room(alloc: Global, n: u32) -> Result<Tree, NoMemory>
+        ensures empty { IfOk result (λ t. view t ≡ none) }
+        ensures sound { IfOk result (λ t. IsSound (view t)) }
+    {
+        let pairs = Items::from_vec(Vec::with_capacity(alloc, n as usize)?);
+        Ok(Tree { pairs, alloc })
     }
 
     /// All pairs, in order.
@@ -159,7 +157,7 @@ impl Tree {
         ensures err { OnErr result (view self.new ≡ view self.old) }
     {
         let key = text_of(self.alloc, key)?;
-        match push_pair(self.alloc, &mut self.pairs, make_pair(key, 0, value)) {
+        match push_pair(&mut self.pairs, make_pair(key, 0, value)) {
             Ok(()) => Ok(()),
             Err(_) => Err(NoMemory),
         }

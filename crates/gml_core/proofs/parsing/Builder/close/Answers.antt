@@ -1,7 +1,7 @@
-use Rattle.std.proofs.Common.{◌≤◌, List, [], ◌∷◌, ◌++◌, length, refl, ap, ◌∙◌, arith, vec_len}
+use Rattle.std.proofs.Common.{List, [], ◌∷◌, ◌++◌, length, refl, ap, ◌∙◌, arith}
 use Rattle.gml_core.specs.declared.tree.Pair.{Pair}
 use Rattle.gml_core.specs.Trees.{entry, list, closes}
-use Rattle.gml_core.proofs.Builds.{close_takes, close_fails, first_within, nested_popped, split_within}
+use Rattle.gml_core.proofs.Builds.{close_takes, close_fails, nested_popped}
 use Rattle.gml_core.proofs.parsing.Builder.close.Goals as goal
 
 pub returns-in-None-clause-err : goal.returns-in-None-clause-err
@@ -10,21 +10,19 @@ returns-in-None-clause-err c = λ _. close_fails c.args.at closes c.args.self.no
 pub invariant_of-self-in-Break-1 : goal.invariant_of-self-in-Break-1
 invariant_of-self-in-Break-1 c =
     let old = c.args.self.now in
-    let within : c.in-Some.frame.start ≤ length old.pairs.items = first_within old.stack.items c.pop.new.self.items c.in-Some.frame (length old.pairs.items) c.in-Some.ensures.items old.nested in
-    let left : c.in-Some.frame.start ≤ vec_len c.split_off.new.self = split_within c.split_off.result c.split_off.new.self old.pairs (λ v. vec_len v) c.in-Some.frame.start c.split_off.ensures.len c.split_off.ensures.err (omega (arith, within)) in
-    record { nested = nested_popped old.stack.items c.pop.new.self.items c.in-Some.frame (length old.pairs.items) (length c.split_off.new.self.items) c.in-Some.ensures.items old.nested (omega (arith, left)) }
+    record { nested = nested_popped old.stack.items c.pop.new.self.items c.in-Some.frame (length old.pairs.items) (length c.cut_off.new.pairs.items) c.in-Some.ensures.items old.nested c.cut_off.ensures.left }
 
 pub invariant_of-self-in-Some : goal.invariant_of-self-in-Some
 invariant_of-self-in-Some c =
     let old = c.args.self.now in
     record {
       nested = nested_popped old.stack.items c.pop.new.self.items c.in-Some.frame (length old.pairs.items) (length c.push.new.self.items) c.in-Some.ensures.items old.nested
-          (omega (arith, c.in_ok-split_off-in-Some.ensures.len, c.push.ensures.lower_bound));
+          (omega (arith, c.cut_off.ensures.left, c.push.ensures.lower_bound));
     }
 
 pub returns-in_ok-push-in-Some-clause-ok : goal.returns-in_ok-push-in-Some-clause-ok
 returns-in_ok-push-in-Some-clause-ok c =
     let f = c.in-Some.frame in
     close_takes c.args.at closes c.args.self.now _ f c.from_vec-inner.result c.make_pair-pair.result refl c.requires c.requires c.in-Some.ensures.items
-    (c.from_vec-inner.ensures ∙ c.in_ok-split_off-in-Some.ensures.tail) (c.in_ok-push-in-Some.ensures.items ∙ ap (λ (ps : List Pair). ps ++ c.make_pair-pair.result ∷ []) c.in_ok-split_off-in-Some.ensures.items)
+    (c.from_vec-inner.ensures ∙ c.in_ok-cut_off-in-Some.ensures.tail) (c.in_ok-push-in-Some.ensures.items ∙ ap (λ (ps : List Pair). ps ++ c.make_pair-pair.result ∷ []) c.in_ok-cut_off-in-Some.ensures.front)
     (c.make_pair-pair.ensures ∙ ap (entry f.key f.at) (c.list_value.ensures ∙ ap list c.make_tree.ensures))

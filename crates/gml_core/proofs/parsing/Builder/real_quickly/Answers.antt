@@ -1,4 +1,4 @@
-use Rattle.std.proofs.Common.{◌≡◌, ◌+◌, List, ℕ, Some, None, take, refl, sym, ap, ◌∙◌}
+use Rattle.std.proofs.Common.{◌+◌, List, ℕ, Some, None, take, refl, sym, ap, ◌∙◌}
 use Rattle.gml_core.specs.declared.pieces.State.TheVariants.{Between}
 use Rattle.gml_core.specs.declared.token.TokenKind.{TokenKind}
 use Rattle.gml_core.specs.Reading.{said_by}
