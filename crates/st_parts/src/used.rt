@@ -11,7 +11,7 @@ use st_ids::Text;
 
 /// Pair i of a list, which the rest of the list begins with.
 #[tactic(auto, using(crate::proofs::PairLemmas::rest_at))]
-pub(crate) fn pair_at(tree: &Tree, i: u32) -> &Pair
+pub fn pair_at(tree: &Tree, i: u32) -> &Pair
     requires sound { IsSound (view tree.now) }
     requires within { i < length (listed (view tree.now)) }
     ensures rest { drop i (listed (view tree.now)) ≡ entry_view result.now ∷ drop (i + 1) (listed (view tree.now)) }
@@ -20,13 +20,15 @@ pub(crate) fn pair_at(tree: &Tree, i: u32) -> &Pair
     tree.pair(i)
 }
 
-pub(crate) fn is_key(pair: &Pair, key: &[u8]) -> bool
+/// Whether a pair has the key.
+pub fn is_key(pair: &Pair, key: &[u8]) -> bool
     ensures { result ≡ has_key key.now (entry_view pair.now) }
 {
     pair.key.bytes() == key
 }
 
-pub(crate) fn place(pair: &Pair) -> u32
+/// The byte at which a pair's key begins.
+pub fn place(pair: &Pair) -> u32
     ensures { result ≡ place_of (entry_view pair.now) }
 {
     pair.at
@@ -82,7 +84,7 @@ pub(crate) fn str_of(pair: &Pair) -> Option<&Text>
 }
 
 /// The list that the pair's value is.
-pub(crate) fn list_of(pair: &Pair) -> Option<&Tree>
+pub fn list_of(pair: &Pair) -> Option<&Tree>
     requires { HasSoundList (datum_of (entry_view pair.now)) }
     ensures list { option_map (λ t. listed (view t.now)) result ≡ list_in (datum_of (entry_view pair.now)) }
     ensures sound { IfSome result (λ t. IsSound (view t.now)) }
@@ -91,7 +93,7 @@ pub(crate) fn list_of(pair: &Pair) -> Option<&Tree>
 }
 
 /// The integer of a pair that may be there.
-pub(crate) fn int_of_first(pair: Option<&Pair>) -> Option<i64>
+pub fn int_of_first(pair: Option<&Pair>) -> Option<i64>
     ensures { result ≡ first_int_of (option_map (λ p. entry_view p.now) pair.entry) }
 {
     int_of(pair?)
