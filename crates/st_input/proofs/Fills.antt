@@ -1,7 +1,7 @@
 -- The two passes that fill the open orders.
 use Rattle.std.proofs.Common.{zero, zero-add, ◌≡◌, ◌≢◌, ℕ, suc, ◌+◌, ◌<◌, ◌≤◌, eqb, Bool, true, false, cond, List, [], ◌∷◌, ◌++◌, length, get_or, set, take, drop, refl, sym, ap, subst, ◌∙◌, append_assoc, append-nil, add-one, arith, get_or-set_same, get_or-set_other, drop-cons, slice_get, Option, None, Some, ℤ, map, is_none, option_map}
 use Rattle.std.proofs.lemmas.Grind.{common_steps}
-use Rattle.std.proofs.lemmas.List.{set-set, take_more, length-take-le, drop_all}
+use Rattle.std.proofs.lemmas.List.{take_more, length-take-le, drop_all}
 use Rattle.std.proofs.lemmas.Option.{get_or_from_slice_get, slice_get-get_or, slice_get_within, slice_get-map}
 use Rattle.std.proofs.lemmas.Bool.{eqb-true, eqb-false}
 use Rattle.st_parts.specs.declared.parts.Mention.{Mention}
@@ -76,12 +76,6 @@ pub ins_end : (ends : List (ℕ × ℕ)) (v : ℕ) → ins_from (length ends) (d
 ins_end ends v =
     let le : length ends ≤ length ends = omega arith in
     ap (λ (l : List (ℕ × ℕ)). ins_from (length ends) l v) (drop_all (length ends) ends le) ∙ ins_none (length ends) v
-
--- a list taken out, made longer, and put back
-pub pushed_at : (orders : List (List ℕ)) (v : ℕ) (empty old list : List ℕ) (e : ℕ) (a new : List (List ℕ)) → v < length orders → slice_get orders v ≡ Some old → a ≡ set orders v empty → list ≡ old ++ e ∷ [] → new ≡ set a v list → new ≡ set orders v (get_or orders v [] ++ e ∷ [])
-pushed_at orders v empty old list e a new lt there out longer back =
-    let same : get_or orders v [] ≡ old = get_or_from_slice_get orders v old [] there in
-    back ∙ ap (λ (l : List (List ℕ)). set l v list) out ∙ set-set orders v empty list ∙ ap (λ (l : List ℕ). set orders v l) (longer ∙ ap (λ (l : List ℕ). l ++ e ∷ []) (sym same))
 
 -- two passes are one
 pub filled_twice : (free : List Bool) (a b c : List (List ℕ)) (f g : ℕ → List ℕ) → Filled free a b f → Filled free b c g → Filled free a c (λ v. f v ++ g v)

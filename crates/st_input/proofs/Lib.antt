@@ -1,4 +1,5 @@
 mod NameLemmas
+mod RunLemmas
 mod FitLemmas
 mod PathLemmas
 mod Fills

@@ -123,7 +123,7 @@ positions_get (suc n) k d lt = elim (cases_lt k n) [
 pub other_pos : (j k : ℕ) → j ≢ k → int_eq (pos j) (pos k) ≡ false
 other_pos j k differ = decided_false (int_eq (pos j) (pos k)) (pos j ≡ pos k) (Decides-int_eq (pos j) (pos k)) (λ e. differ (cc))
 
-other_neg : (j k : ℕ) → int_eq (negsuc j) (pos k) ≡ false
+pub other_neg : (j k : ℕ) → int_eq (negsuc j) (pos k) ≡ false
 other_neg j k = decided_false (int_eq (negsuc j) (pos k)) (negsuc j ≡ pos k) (Decides-int_eq (negsuc j) (pos k)) (λ e. cc)
 
 by_position_in : (n j : ℕ) → j < n → by_position n (pos j) ≡ Some j

@@ -6,6 +6,7 @@ ghost use Rattle.std.specs.Prelude.{◌≡◌, [], ◌∷◌, ◌++◌, ◌<◌,
 
 use crate::fault::ShapeFault;
 use crate::names::{NameSet, Salted};
+use crate::runs::Run;
 use st_ids::{EdgeId, EdgeList, IdVec, VertexId};
 use st_parts::parts::{Edge, Mention, Node};
 use std::alloc::Global;
@@ -50,7 +51,22 @@ fn add_id(set: &mut NameSet, edge: &Edge) -> Result<(), ShapeFault>
     }
 }
 
+/// Whether the ids follow one another, so that none needs a hash.
+fn are_consecutive(edges: &[Edge]) -> bool {
+    let mut run = Run::new();
+    for edge in edges {
+        if !run.follow(id_of(*edge)) {
+            return false;
+        }
+    }
+    true
+}
+
+/// A salt of all the ids; where none of them needs a hash, an empty one.
 fn salt_of(edges: &[Edge]) -> Salted {
+    if are_consecutive(edges) {
+        return Salted::new();
+    }
     let mut salt = Salted::new();
     for edge in edges {
         salt.take(id_of(*edge));
@@ -77,7 +93,7 @@ fn ids_of(alloc: Global, edges: &[Edge]) -> Result<NameSet, ShapeFault>
     ensures none { OnOk result (first_fault id_fault [] edges.now ≡ None) }
     ensures fault { FailsBy (first_fault id_fault [] edges.now) result }
 {
-    let mut set = NameSet::with_room(alloc, edges.len(), salt_of(edges))?;
+    let mut set = NameSet::with_room(alloc, edges.len(), salt_of(edges));
     add_ids(&mut set, edges)?;
     Ok(set)
 }

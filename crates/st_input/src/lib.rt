@@ -11,6 +11,7 @@ mod orders;
 mod outer;
 mod paths;
 mod plain;
+mod runs;
 mod tables;
 mod written;
 
@@ -43,7 +44,7 @@ mod tests {
     #[test]
     fn each_text_has_its_first_fault(rt: HostRuntime) -> Result<(), Fail> {
         let alloc = rt.alloc();
-        let rows: [(&[u8], Option<ShapeFault>); 17] = [
+        let rows: [(&[u8], Option<ShapeFault>); 14] = [
             (b"a 1", Some(ShapeFault::NoGraph)),
             (
                 b"graph [ ] graph [ ]",
@@ -65,18 +66,6 @@ mod tests {
             (
                 b"graph [ edge [ source 1 target 2 ] ]",
                 Some(ShapeFault::UnknownEnd { edge: 0, id: 1 }),
-            ),
-            (
-                b"graph [ node [ id 1 ] node [ id 2 ] edge [ source 1 target 2 minlen 0 ] ]",
-                Some(ShapeFault::BadLength { at: 61 }),
-            ),
-            (
-                b"graph [ node [ id 1 ] node [ id 2 ] edge [ source 1 target 2 minlen 2.0 ] ]",
-                Some(ShapeFault::BadKind { at: 61 }),
-            ),
-            (
-                b"graph [ node [ id 1 ] node [ id 2 ] edge [ source 1 target 2 minlen 501 ] edge [ ] ]",
-                Some(ShapeFault::BadLength { at: 61 }),
             ),
             (
                 b"graph [ node [ id 1 ] node [ id 2 ] edge [ id 7 source 1 target 2 ] edge [ id 7 source 1 target 2 ] ]",

@@ -6,9 +6,10 @@ ghost use Rattle.std.specs.Prelude.{◌≡◌, [], ◌∷◌, ◌++◌, ◌<◌,
 
 use crate::fault::ShapeFault;
 use crate::names::{NameSet, Salted};
+use crate::runs::Run;
 use sqlite_items::Items;
 use st_ids::limits::MOST_LENGTH;
-use st_ids::{EdgeId, IdVec};
+use st_ids::{EdgeId, IdVec, NoMemory};
 use st_parts::parts::{Edge, Minlen, Node, put};
 use std::alloc::Global;
 
@@ -29,7 +30,24 @@ fn add_node(set: &mut NameSet, node: &Node) -> Result<(), ShapeFault>
     }
 }
 
+/// Whether the ids follow one another, so that none needs a hash.
+fn are_consecutive(nodes: &[Node]) -> bool {
+    let mut run = Run::new();
+    for node in nodes {
+        if let Some(id) = node.id {
+            if !run.follow(id) {
+                return false;
+            }
+        }
+    }
+    true
+}
+
+/// A salt of all the ids; where none of them needs a hash, an empty one.
 fn salt_of(nodes: &[Node]) -> Salted {
+    if are_consecutive(nodes) {
+        return Salted::new();
+    }
     let mut salt = Salted::new();
     for node in nodes {
         if let Some(id) = node.id {
@@ -46,7 +64,7 @@ pub(crate) fn nodes_by_name(alloc: Global, nodes: &[Node]) -> Result<NameSet, Sh
     ensures none { OnOk result (first_fault node_fault [] nodes.now ≡ None) }
     ensures fault { FailsBy (first_fault node_fault [] nodes.now) result }
 {
-    let mut set = NameSet::with_room(alloc, nodes.len(), salt_of(nodes))?;
+    let mut set = NameSet::with_room(alloc, nodes.len(), salt_of(nodes));
     for node in nodes {
         add_node(&mut set, node)?;
     }
@@ -128,6 +146,14 @@ pub(crate) struct Arcs {
     pub(crate) lengths: IdVec<EdgeId, u32>,
 }
 
+/// No ends yet, with room for those of n edges.
+fn room_for(alloc: Global, n: usize) -> Result<Items<(u32, u32)>, NoMemory>
+    ensures { IfOk result (λ ends. ends ≡ []) }
+{
+    let ends = Vec::with_capacity(alloc, n)?;
+    Ok(Items::from_vec(ends))
+}
+
 /// The ends and the length of each edge.
 pub(crate) fn arcs_of(alloc: Global, vertices: &NameSet, edges: &[Edge]) -> Result<Arcs, ShapeFault>
     requires vertices { length vertices.now < 2 ^ 32 }
@@ -139,7 +165,7 @@ pub(crate) fn arcs_of(alloc: Global, vertices: &NameSet, edges: &[Edge]) -> Resu
     ensures none { OnOk result (first_fault (edge_fault vertices.now) [] edges.now ≡ None) }
     ensures fault { FailsBy (first_fault (edge_fault vertices.now) [] edges.now) result }
 {
-    let mut ends = Items::new(alloc);
+    let mut ends = room_for(alloc, edges.len())?;
     let mut lengths = IdVec::with_capacity(alloc, edges.len() as u32)?;
     for (i, edge) in edges.iter().enumerate() {
         let arc = arc_of(vertices, i as u32, *edge)?;

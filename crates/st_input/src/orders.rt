@@ -3,7 +3,7 @@
 //! One pass forward over the edges puts each behind the list of its tail, and one pass backward behind the list of
 //! its head. Cost: O(V + E) on average.
 ghost use Rattle.st_input.specs.Orders.{AreAt, Filled, HasEndsBelow, default_order, extended, ins_from, is_free, one, outs_from};
-ghost use Rattle.std.specs.Prelude.{◌≡◌, ℕ, [], ◌∷◌, ◌++◌, ◌<◌, ◌^◌, length, map, slice_index_or, slice_set, All, IfOk, OnOk};
+ghost use Rattle.std.specs.Prelude.{◌≡◌, ◌<◌, ◌^◌, length, map, All, IfOk, OnOk};
 
 use st_ids::{EdgeId, EdgeList, IdVec, NoMemory, VertexId};
 use st_parts::parts::Node;
@@ -21,24 +21,8 @@ fn free_of(alloc: Global, nodes: &[Node]) -> Result<IdVec<VertexId, bool>, NoMem
     Ok(free)
 }
 
-fn push_at(
-    alloc: Global,
-    orders: &mut IdVec<VertexId, EdgeList>,
-    v: VertexId,
-    e: EdgeId,
-) -> Result<(), NoMemory>
-    requires { v.0 < length orders.old }
-    ensures { OnOk result (orders.new ≡ slice_set orders.old v.0 (slice_index_or orders.old v.0 [] ++ e.0 ∷ [])) }
-{
-    let mut list = orders.replace(v, EdgeList::new(alloc));
-    list.push(e)?;
-    orders.set(v, list);
-    Ok(())
-}
-
 #[tactic(auto, using(crate::proofs::Fills::put_more))]
 fn put_free(
-    alloc: Global,
     orders: &mut IdVec<VertexId, EdgeList>,
     free: &IdVec<VertexId, bool>,
     v: VertexId,
@@ -50,13 +34,12 @@ fn put_free(
     ensures lists { OnOk result (AreAt (length free.now) orders.new (extended free.now orders.old (one v.0 e.0))) }
 {
     if *free.get(v) {
-        push_at(alloc, orders, v, e)?;
+        orders.push_at(v, e)?;
     }
     Ok(())
 }
 
 fn fill_outs(
-    alloc: Global,
     orders: &mut IdVec<VertexId, EdgeList>,
     free: &IdVec<VertexId, bool>,
     ends: &[(u32, u32)],
@@ -67,13 +50,12 @@ fn fill_outs(
     ensures filled { OnOk result (Filled free.now orders.old orders.new (outs_from 0 ends.now)) }
 {
     for (i, pair) in ends.iter().enumerate() {
-        put_free(alloc, orders, free, VertexId(pair.0), EdgeId(i as u32))?;
+        put_free(orders, free, VertexId(pair.0), EdgeId(i as u32))?;
     }
     Ok(())
 }
 
 fn fill_ins(
-    alloc: Global,
     orders: &mut IdVec<VertexId, EdgeList>,
     free: &IdVec<VertexId, bool>,
     ends: &[(u32, u32)],
@@ -86,14 +68,13 @@ fn fill_ins(
     let mut i = ends.len();
     while i > 0 {
         i -= 1;
-        put_free(alloc, orders, free, VertexId(ends[i].1), EdgeId(i as u32))?;
+        put_free(orders, free, VertexId(ends[i].1), EdgeId(i as u32))?;
     }
     Ok(())
 }
 
 #[tactic(auto, using(crate::proofs::Fills::filled_twice))]
 pub(crate) fn fill_free(
-    alloc: Global,
     orders: &mut IdVec<VertexId, EdgeList>,
     free: &IdVec<VertexId, bool>,
     ends: &[(u32, u32)],
@@ -103,8 +84,8 @@ pub(crate) fn fill_free(
     requires small { length ends.now < 2 ^ 32 }
     ensures filled { OnOk result (Filled free.now orders.old orders.new (default_order ends.now)) }
 {
-    fill_outs(alloc, orders, free, ends)?;
-    fill_ins(alloc, orders, free, ends)
+    fill_outs(orders, free, ends)?;
+    fill_ins(orders, free, ends)
 }
 
 /// The written orders, with the default where none is written.
@@ -123,6 +104,6 @@ pub(crate) fn whole_orders(
 {
     let mut orders = orders;
     let free = free_of(alloc, nodes)?;
-    fill_free(alloc, &mut orders, &free, ends)?;
+    fill_free(&mut orders, &free, ends)?;
     Ok(orders)
 }

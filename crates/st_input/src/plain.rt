@@ -18,7 +18,7 @@ fn counted_table(alloc: Global, n: u32) -> Result<IdVec<VertexId, i64>, NoMemory
     requires { n < 2 ^ 31 }
     ensures { IfOk result (λ names. names ≡ counted n) }
 {
-    let mut names = IdVec::new(alloc);
+    let mut names = IdVec::with_capacity(alloc, n)?;
     for v in 0..n {
         let _: VertexId = names.push(i64::from(v + 1))?;
     }
@@ -30,7 +30,7 @@ fn counted_table(alloc: Global, n: u32) -> Result<IdVec<VertexId, i64>, NoMemory
 fn counted_set(alloc: Global, n: u32) -> Result<NameSet, NoMemory>
     ensures { IfOk result (λ names. names ≡ counted n) }
 {
-    let mut names = NameSet::with_room(alloc, n as usize, Salted::new())?;
+    let mut names = NameSet::with_room(alloc, n as usize, Salted::new());
     for v in 0..n {
         names.add(i64::from(v + 1))?;
     }
@@ -41,7 +41,7 @@ fn no_labels(alloc: Global, n: u32) -> Result<IdVec<VertexId, Option<Text>>, NoM
     requires { n < 2 ^ 31 }
     ensures { IfOk result (λ labels. labels ≡ replicate n None) }
 {
-    let mut labels = IdVec::new(alloc);
+    let mut labels = IdVec::with_capacity(alloc, n)?;
     for _ in 0..n {
         let _: VertexId = labels.push(None)?;
     }
@@ -52,7 +52,7 @@ fn empty_orders(alloc: Global, n: u32) -> Result<IdVec<VertexId, EdgeList>, NoMe
     requires { n < 2 ^ 31 }
     ensures { IfOk result (λ orders. orders ≡ replicate n []) }
 {
-    let mut orders = IdVec::new(alloc);
+    let mut orders = IdVec::with_capacity(alloc, n)?;
     for _ in 0..n {
         let _: VertexId = orders.push(EdgeList::new(alloc))?;
     }
@@ -65,7 +65,7 @@ fn default_table(alloc: Global, graph: &Digraph) -> Result<IdVec<VertexId, EdgeL
 {
     let free = IdVec::with_len(alloc, graph.vertices(), true)?;
     let mut orders = empty_orders(alloc, graph.vertices())?;
-    fill_free(alloc, &mut orders, &free, graph.ends())?;
+    fill_free(&mut orders, &free, graph.ends())?;
     Ok(orders)
 }
 

@@ -63,7 +63,7 @@ fn order_tree(alloc: Global, names: &IdVec<EdgeId, i64>, order: &[EdgeId]) -> Re
     ensures pairs { IfOk result (λ t. listed (view t) ≡ map (name_pair names.now) (numbers order.now)) }
     ensures sound { IfOk result (λ t. IsSound (view t)) }
 {
-    let mut tree = Tree::new(alloc);
+    let mut tree = Tree::with_room(alloc, order.len() as u32)?;
     for e in order {
         push_name(&mut tree, b"e", names, *e)?;
     }
@@ -114,6 +114,19 @@ fn push_rest(
     Ok(())
 }
 
+/// How many pairs the list of a vertex has.
+fn node_room(spec: &GraphSpec, v: VertexId, extent: Extent) -> u32
+    requires there { v.0 < spec.now.graph.vertices }
+{
+    match extent {
+        Extent::Plain => 1,
+        Extent::Whole => match spec.names().label.get(v) {
+            None => 2,
+            Some(_) => 3,
+        },
+    }
+}
+
 /// What the pair of a vertex holds.
 #[tactic(auto, unfolding(gml_core::specs::Lexing::token_at))]
 fn node_tree(alloc: Global, spec: &GraphSpec, v: VertexId, extent: Extent) -> Result<Tree, NoMemory>
@@ -122,7 +135,7 @@ fn node_tree(alloc: Global, spec: &GraphSpec, v: VertexId, extent: Extent) -> Re
     ensures pairs { IfOk result (λ t. listed (view t) ≡ vertex_pairs extent spec.now v.0) }
     ensures sound { IfOk result (λ t. IsSound (view t)) }
 {
-    let mut node = Tree::new(alloc);
+    let mut node = Tree::with_room(alloc, node_room(spec, v, extent))?;
     push_name(&mut node, b"id", &spec.names().vertex, v)?;
     push_rest(alloc, &mut node, spec, v, extent)?;
     Ok(node)
@@ -168,6 +181,14 @@ fn push_length(edge: &mut Tree, rows: u32, extent: Extent) -> Result<(), NoMemor
     }
 }
 
+/// How many pairs the list of an edge has.
+fn edge_room(rows: u32, extent: Extent) -> u32 {
+    match extent {
+        Extent::Plain => 2,
+        Extent::Whole => { if rows == 1 { 3 } else { 4 } }
+    }
+}
+
 /// What the pair of an edge holds.
 #[tactic(auto, unfolding(gml_core::specs::Lexing::token_at))]
 fn edge_tree(alloc: Global, spec: &GraphSpec, e: EdgeId, extent: Extent) -> Result<Tree, NoMemory>
@@ -176,11 +197,12 @@ fn edge_tree(alloc: Global, spec: &GraphSpec, e: EdgeId, extent: Extent) -> Resu
     ensures sound { IfOk result (λ t. IsSound (view t)) }
 {
     let names = spec.names();
-    let mut edge = Tree::new(alloc);
+    let rows = spec.length(e);
+    let mut edge = Tree::with_room(alloc, edge_room(rows, extent))?;
     push_id(&mut edge, &names.edge, e, extent)?;
     push_name(&mut edge, b"source", &names.vertex, spec.graph().tail(e))?;
     push_name(&mut edge, b"target", &names.vertex, spec.graph().head(e))?;
-    push_length(&mut edge, spec.length(e), extent)?;
+    push_length(&mut edge, rows, extent)?;
     Ok(edge)
 }
 
@@ -285,14 +307,11 @@ fn graph_tree(alloc: Global, spec: &GraphSpec, extent: Extent) -> Result<Tree, N
     ensures nests { IfOk result (λ t. depth (view t) ≤ 31) }
     ensures sound { IfOk result (λ t. IsSound (view t)) }
 {
-    let mut graph = Tree::new(alloc);
+    let names = spec.names();
+    let room = spec.graph().vertices() + spec.graph().edges() + 2;
+    let mut graph = Tree::with_room(alloc, room)?;
     push_number(&mut graph, b"directed", 1)?;
-    push_outer(
-        alloc,
-        &mut graph,
-        &spec.names().edge,
-        outer_shown(spec, extent),
-    )?;
+    push_outer(alloc, &mut graph, &names.edge, outer_shown(spec, extent))?;
     push_nodes(alloc, &mut graph, spec, extent)?;
     push_edges(alloc, &mut graph, spec, extent)?;
     Ok(graph)
