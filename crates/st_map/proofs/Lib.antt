@@ -15,6 +15,7 @@ mod ExchangeLemmas
 mod InsertLemmas
 mod RemoveLemmas
 mod LinkLoops
+mod ChainLemmas
 mod LinkSplit
 mod SplitTables
 mod InsertTables

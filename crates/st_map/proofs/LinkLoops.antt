@@ -1,17 +1,17 @@
--- Links made of tables, copied and given room.
-use Rattle.std.proofs.Common.{◌≡◌, ◌≢◌, ℕ, suc, ◌+◌, ◌*◌, ◌<◌, ◌≤◌, ◌^◌, ◌⊎◌, List, [], ◌∷◌, ◌++◌, map, length, get_or, Option, Some, None, unwrap_or, inl, inr, refl, sym, ap, ◌∙◌, subst, arith}
+-- Records that get their names, links copied and given room.
+use Rattle.std.proofs.Common.{◌≡◌, ◌≢◌, ℕ, suc, ◌+◌, ◌*◌, ◌<◌, ◌⊎◌, List, [], ◌∷◌, ◌++◌, map, length, get_or, Option, Some, None, unwrap_or, inl, inr, refl, sym, ap, ◌∙◌, subst, arith}
 use Rattle.std.specs.List.{AllZip, range_with_len}
-use Rattle.std.proofs.lemmas.Bool.{cases_eq, cases_lt, cond-true, cond-false}
-use Rattle.std.proofs.lemmas.List.{get_or-map, length-map, get_or_append_left, get_or-append-add, get_or_past, length_push}
+use Rattle.std.proofs.lemmas.Bool.{cond-true, cond-false}
+use Rattle.std.proofs.lemmas.List.{get_or_append_left, get_or-append-add, length_push}
 use Rattle.std.proofs.lemmas.List.FromFn.{get_or-map-range_with_len, length-map-range_with_len, fill_by_all}
 use Rattle.std.proofs.lemmas.Option.{same_Some, none-some}
 use Rattle.slab.specs.Slab.{IsSlotClone, Slab, get, Updates, slab_len}
 use Rattle.st_ids.specs.Ends.{twin, edge_of, is_out}
 use Rattle.st_map.specs.declared.links.End.{End}
-use Rattle.st_map.specs.Links.{AreFirstKeys, AreKeysOf, AreLinks, AreNamed, AreSameFirsts, IsLinked, ccw_at, cw_at, first_at, key_of, no_end}
+use Rattle.st_map.specs.Links.{AreLinks, AreNamed, IsLinked, ccw_at, cw_at, first_at, key_of, no_end}
 use Rattle.st_map.proofs.EndLemmas.{even_or_odd, is_out-tail, is_out-head, edge_of-tail, edge_of-head, twin-tail, twin-head}
 use Rattle.st_map.proofs.SplitLemmas.{which}
-use Rattle.st_map.proofs.LinkLemmas.{record_of, cw_is, ccw_is, dart_is, linked_by}
+use Rattle.st_map.proofs.LinkLemmas.{cw_is, ccw_is, linked_by}
 
 -- ---- keys
 pub key_tail : (keys : List (ℕ × ℕ)) (k : ℕ) → key_of keys (2 * k) ≡ (get_or keys k (0, 0)).0
@@ -91,46 +91,12 @@ named_more s0 s s1 s2 e keys a b r1 r2 N same va u1 q1 vb u2 q2 = record {
   ];
 }
 
--- ---- the ends below d have their links
-pub record AreLinkedBelow (s : Slab End) (keys : List (ℕ × ℕ)) (f g : ℕ → ℕ) (d : ℕ) : Type 0 where
-  pub named : AreNamed s (length keys) keys
-  pub linked : (c : ℕ) → c < d → get s (key_of keys c) ≡ Some (record_of (key_of keys) (λ c. key_of keys (twin c)) f g c)
-
-named_one : (s : Slab End) (m : ℕ) (keys : List (ℕ × ℕ)) → AreNamed s m keys → (c d : ℕ) → c < 2 * m → d < 2 * m → key_of keys c ≡ key_of keys d → c ≡ d
+-- ---- an end by its key
+pub named_one : (s : Slab End) (m : ℕ) (keys : List (ℕ × ℕ)) → AreNamed s m keys → (c d : ℕ) → c < 2 * m → d < 2 * m → key_of keys c ≡ key_of keys d → c ≡ d
 named_one s m keys N c d lc ld q =
     let x = N.each c lc in
     let y = N.each d ld in
     sym x.2 ∙ ap (λ (r : End). r.dart) (same_Some x.0 y.0 (sym x.1 ∙ ap (get s) q ∙ y.1)) ∙ y.2
-
-pub linked_more : (s s' : Slab End) (keys : List (ℕ × ℕ)) (f g : ℕ → ℕ) (d : ℕ) → d < 2 * length keys → AreLinkedBelow s keys f g d
-    → Updates s s' (key_of keys d) (Some (record_of (key_of keys) (λ c. key_of keys (twin c)) f g d)) → AreLinkedBelow s' keys f g (d + 1)
-linked_more s s' keys f g d ld B u = record {
-  named = record {
-    size = refl;
-    each = λ c l. elim (cases_eq (key_of keys c) (key_of keys d)) [
-      | inl q ↦ (
-        record_of (key_of keys) (λ c. key_of keys (twin c)) f g d,
-        ap (get s') q ∙ u.changed,
-        sym (named_one s (length keys) keys B.named c d l ld q),
-      )
-      | inr n ↦ (let r = B.named.each c l in (r.0, u.others (key_of keys c) n ∙ r.1, r.2))
-    ];
-  };
-  linked = λ c l. elim (cases_eq c d) [
-    | inl q ↦ ap (λ z. get s' (key_of keys z)) q ∙ u.changed ∙ ap (λ z. Some (record_of (key_of keys) (λ c. key_of keys (twin c)) f g z)) (sym q)
-    | inr n ↦ u.others (key_of keys c) (λ q. n (named_one s (length keys) keys B.named c d (omega arith) ld q)) ∙ B.linked c (omega arith)
-  ];
-}
-
--- ---- first keys
-pub keys_of_firsts : (keys : List (ℕ × ℕ)) (first : List ℕ) (found : List (Option ℕ)) → AreKeysOf keys first (length first) found → AreFirstKeys (2 * length keys) (key_of keys) found
-keys_of_firsts keys first found K v k q = elim (cases_lt v (length first)) [
-  | inl l ↦ elim (cases_lt (get_or first v 0) (2 * length keys)) [
-    | inl a ↦ (get_or first v 0, a, same_Some k (key_of keys (get_or first v 0)) (sym q ∙ K.some v l a))
-    | inr a ↦ absurd (none-some k (sym (K.none v l a) ∙ q))
-  ]
-  | inr l ↦ absurd (none-some k (sym (get_or_past found v None (omega (arith, K.size))) ∙ q))
-]
 
 -- ---- the same records
 module _ (s s' : Slab End) (keys : List (ℕ × ℕ)) (first : List (Option ℕ)) (same : (k : ℕ) → get s' k ≡ get s k) (A : AreLinks s keys first) where
@@ -164,40 +130,9 @@ module _ (s s' : Slab End) (keys : List (ℕ × ℕ)) (first : List (Option ℕ)
       one None = refl
       one (Some k) = ap (λ (o : Option End). (unwrap_or o no_end).dart) (same k)
 
--- ---- the tables that made links are theirs
+-- ---- a table by its entries
 pub table_again : (n : ℕ) (xs : List ℕ) → length xs ≡ n → (f : ℕ → ℕ) → ((d : ℕ) → d < n → f d ≡ get_or xs d 0) → map f (range_with_len 0 n) ≡ xs
 table_again n xs q f h = sym (fill_by_all f xs n 0 q (λ k l. sym (h k l)))
-
-module _ (s : Slab End) (keys : List (ℕ × ℕ)) (cw ccw first : List ℕ) (found : List (Option ℕ)) (few : length keys < 2 ^ 30) (size : length cw ≡ 2 * length keys) (size' : length ccw ≡ length cw)
-    (L : IsLinked s (length cw) (key_of keys) (λ d. key_of keys (twin d)) (λ d. get_or cw d 0) (λ d. get_or ccw d 0)) (K : AreKeysOf keys first (length first) found) where
-  L2 : IsLinked s (2 * length keys) (key_of keys) (λ d. key_of keys (twin d)) (λ d. get_or cw d 0) (λ d. get_or ccw d 0)
-  L2 = subst (λ z. IsLinked s z (key_of keys) (λ d. key_of keys (twin d)) (λ d. get_or cw d 0) (λ d. get_or ccw d 0)) size L
-
-  pub made_links : slab_len s ≡ 2 * length keys → AreLinks s keys found
-  made_links count = record {
-    few = few;
-    linked = linked_by s keys (λ d. key_of keys (twin d)) (λ d. get_or cw d 0) (λ d. get_or ccw d 0) L2;
-    firsts = keys_of_firsts keys first found K;
-    count = count;
-  }
-
-  pub made_cw : map (cw_at s keys) (range_with_len 0 (2 * length keys)) ≡ cw
-  made_cw = table_again (2 * length keys) cw size (cw_at s keys) (cw_is s (2 * length keys) (key_of keys) (λ d. key_of keys (twin d)) (λ d. get_or cw d 0) (λ d. get_or ccw d 0) L2)
-
-  pub made_ccw : map (ccw_at s keys) (range_with_len 0 (2 * length keys)) ≡ ccw
-  made_ccw = table_again (2 * length keys) ccw (size' ∙ size) (ccw_at s keys) (ccw_is s (2 * length keys) (key_of keys) (λ d. key_of keys (twin d)) (λ d. get_or cw d 0) (λ d. get_or ccw d 0) L2)
-
-  pub made_first : AreSameFirsts (length cw) first (map (first_at s) found)
-  made_first = record {
-    size = length-map found (first_at s) ∙ K.size;
-    each = λ v l a.
-        let b : get_or first v 0 < 2 * length keys = omega (arith, size) in
-        get_or-map (first_at s) found v None 0 (omega (arith, K.size)) ∙ ap (first_at s) (K.some v l b)
-        ∙ dart_is s (2 * length keys) (key_of keys) (λ d. key_of keys (twin d)) (λ d. get_or cw d 0) (λ d. get_or ccw d 0) L2 (get_or first v 0) b;
-    none = λ v l a.
-        let b : 2 * length keys ≤ get_or first v 0 = omega (arith, size) in
-        get_or-map (first_at s) found v None 0 (omega (arith, K.size)) ∙ ap (first_at s) (K.none v l b);
-  }
 
 -- ---- a copy of the records
 pub cloned : (is : End → End → Type 0) → ((a b : End) → is a b → b ≡ a) → (xs ys : List (Option End)) → AllZip (IsSlotClone is) xs ys → ys ≡ xs

@@ -1,6 +1,5 @@
 -- Links with an edge taken out.
-use Rattle.std.proofs.Common.{◌≡◌, ◌≢◌, ℕ, suc, ◌+◌, ◌-◌, ◌*◌, ◌<◌, ◌^◌, ◌⊎◌, eqb, List, [], ◌∷◌, map, set, length, get_or, Option, Some, None, IsSome, unwrap_or, inl, inr, cond, refl, sym, ap, ◌∙◌, subst, arith}
-use Rattle.std.specs.List.{range_with_len}
+use Rattle.std.proofs.Common.{◌≡◌, ◌≢◌, ℕ, suc, ◌+◌, ◌-◌, ◌*◌, ◌<◌, ◌⊎◌, eqb, List, map, set, length, get_or, Option, Some, None, IsSome, unwrap_or, inl, inr, cond, refl, sym, ap, ◌∙◌, subst, arith}
 use Rattle.std.proofs.lemmas.Bool.{cases_eq, cases_lt, cond-true, cond-false, eq-eqb, ne_eqb}
 use Rattle.std.proofs.lemmas.List.{length-map, length-set, get_or-map, get_or-set_same, get_or-set_other, get_or_past}
 use Rattle.std.proofs.lemmas.List.FromFn.{fill_by_all}
@@ -12,9 +11,9 @@ use Rattle.st_map.specs.Links.{AreLinks, IsLinked, LinkTables, RenumbersEnd, Tak
 use Rattle.st_map.specs.Remove.{exchanged}
 use Rattle.st_map.specs.Tables.{AreLinksRemoved, IsBack, first_left, no_first, passed_in}
 use Rattle.st_map.proofs.EndLemmas.{even_or_odd, edge_of-tail, edge_of-head, twin-below}
-use Rattle.st_map.proofs.ExchangeLemmas.{X, ex, ex_e, ex_other, X_tail, X_head, X_X, X_twin, X_below, X_n, X_m}
-use Rattle.st_map.proofs.LinkLemmas.{record_of, cw_is, ccw_is, key_one, linked_by, length-cw, length-ccw, cw_read, ccw_read, read_end}
-use Rattle.st_map.proofs.LinkLoops.{key_tail, key_head, map_same}
+use Rattle.st_map.proofs.ExchangeLemmas.{X, ex, ex_e, ex_other, X_tail, X_head, X_twin, X_below, X_n, X_m}
+use Rattle.st_map.proofs.LinkLemmas.{cw_is, ccw_is, key_one, linked_by, length-cw, length-ccw, cw_read, ccw_read, read_end}
+use Rattle.st_map.proofs.LinkLoops.{key_tail, key_head}
 use Rattle.st_map.proofs.LinkSplit.{same_end}
 use Rattle.st_map.proofs.RemoveLemmas.{end_of}
 use Rattle.st_map.proofs.RemoveTables.{first_no, first_yes, no_left, of_others, twice, within}

@@ -1,5 +1,5 @@
 -- The tables of a map with an edge taken out stand for the graph without it.
-use Rattle.std.proofs.Common.{◌≡◌, ◌≢◌, ℕ, zero, suc, ◌+◌, ◌-◌, ◌*◌, ◌^◌, ◌<◌, ◌≤◌, eqb, List, [], ◌∷◌, map, set, length, get_or, ◌⊎◌, inl, inr, cond, refl, sym, ap, ◌∙◌, subst, arith}
+use Rattle.std.proofs.Common.{◌≡◌, ◌≢◌, ℕ, zero, suc, ◌+◌, ◌-◌, ◌*◌, ◌^◌, ◌<◌, eqb, List, [], ◌∷◌, map, length, get_or, inl, inr, cond, sym, ap, ◌∙◌, subst, arith}
 use Rattle.std.proofs.lemmas.Bool.{cases_eq, cases_lt, eq-eqb, ne_eqb, cond-true, cond-false}
 use Rattle.std.proofs.lemmas.List.{get_or-map, length-map, length-set, get_or-set_same, get_or-set_other}
 use Rattle.std.proofs.lemmas.List.FromFn.{length-map-range_with_len, fill_by_all}
@@ -7,7 +7,7 @@ use Rattle.st_ids.specs.Ends.{edge_of}
 use Rattle.st_ids.specs.Graph.{tail_of, head_of}
 use Rattle.st_ids.specs.Lists.{In, here, there, NoRepeat}
 use Rattle.st_ids.proofs.Public.{not_in_nil, In-cases}
-use Rattle.st_map.specs.Embedded.{Embedded, HasOrders, IsRotation, at, darts, edges, head, next, order, tail}
+use Rattle.st_map.specs.Embedded.{Embedded, IsRotation, at, darts, edges, head, next, order, tail}
 use Rattle.st_map.specs.Links.{HasRoom, LinkTables, SameRooms}
 use Rattle.st_map.specs.Remove.{RemovesEdge, exchanged, old_edge, passed, removed, without_edge}
 use Rattle.st_map.specs.Tables.{AreLinksRemoved, IsBack, IsMap, IsTableOf, Tables, first_left, lowered_at, no_first, passed_in, ring, ring_at, rotation_of, tables}

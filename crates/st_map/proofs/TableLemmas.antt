@@ -3,19 +3,15 @@ use Rattle.std.proofs.Common.{◌≡◌, ℕ, zero, suc, ◌+◌, ◌*◌, ◌^�
 use Rattle.std.specs.Prelude.{nat_lt}
 use Rattle.std.specs.List.{All, range_with_len}
 use Rattle.std.proofs.lemmas.List.Elements.{All-get_or}
-use Rattle.std.proofs.Math.ListN.{set}
-use Rattle.std.proofs.lemmas.List.{get_or-map, length-map, get_or-set_same, get_or-set_other}
+use Rattle.std.proofs.lemmas.List.{get_or-map, length-map}
 use Rattle.std.proofs.lemmas.List.FromFn.{get_or-map-range_with_len, length-map-range_with_len, fill_by_all}
 use Rattle.std.proofs.lemmas.Bool.{cases_eq, cases_lt, eq-eqb, ne_eqb, cond-true, cond-false, lt-ltb, le-ltb}
 use Rattle.st_ids.specs.Graph.{Graph, HasEnds, tail_of, head_of}
-use Rattle.st_map.specs.Orbits.{Permutes}
 use Rattle.st_map.specs.Embedded.{Embedded, HasOrders, IsRotation, at, order, darts, next}
 use Rattle.st_map.specs.Orders.{HasEdges, HasNoLoop, end_at, ends_at, embed, order_at}
-use Rattle.st_map.specs.Links.{AreSameFirsts}
-use Rattle.st_map.specs.Tables.{is_at, AreDegrees, AreEdges, AreFirsts, AreListsLinked, IsBack, IsLawful, IsListLinked, IsMap, IsTableOf, no_first, place_after, ring, ring_at, rotation_of, tables}
+use Rattle.st_map.specs.Tables.{is_at, AreDegrees, AreEdges, AreFirsts, AreListsLinked, IsBack, IsLawful, IsMap, IsTableOf, place_after, ring, ring_at, rotation_of, tables}
 use Rattle.st_map.proofs.EndLemmas.{even_or_odd, at-tail, at-head, at_below}
-use Rattle.st_map.proofs.OrbitLemmas.{before}
-use Rattle.st_map.proofs.RotationLemmas.{next-at, next-last, next-permutes}
+use Rattle.st_map.proofs.RotationLemmas.{next-at, next-last}
 use Rattle.st_map.proofs.OrderLemmas.{at_true, true_at, degree_is, order_size}
 
 -- ---- the end of an edge at v
@@ -51,57 +47,6 @@ at_end g v e y = elim (cases_eq (tail_of g.ends e) v) [
       ap (at g) (at_its_head g.ends v e n) ∙ at-head g e ∙ h
 ]
 
--- ---- the loops
-pub list_more : (ends : List (ℕ × ℕ)) (v : ℕ) (es : List ℕ) (k : ℕ) (old table : List ℕ) → IsLawful ends v es → k < length es
-    → end_at ends v (get_or es k 0) < length table → IsListLinked ends v es k old table
-    → IsListLinked ends v es (k + 1) old (set table (end_at ends v (get_or es k 0)) (end_at ends v (get_or es (place_after (length es) k) 0)))
-list_more ends v es k old table o lk ld h = record {
-  done = λ j l. elim (cases_lt j k) [
-    | inl a ↦
-        get_or-set_other table (end_at ends v (get_or es k 0)) (end_at ends v (get_or es j 0)) (end_at ends v (get_or es (place_after (length es) k) 0)) 0
-        (λ q. o.once j k a lk (end_apart ends v (get_or es j 0) (get_or es k 0) q))
-        ∙ h.done j a
-    | inr b ↦
-        let q : k ≡ j = omega arith in
-        subst (λ z. get_or (set table (end_at ends v (get_or es k 0)) (end_at ends v (get_or es (place_after (length es) k) 0))) (end_at ends v (get_or es z 0)) 0
-        ≡ end_at ends v (get_or es (place_after (length es) z) 0)) q
-        (get_or-set_same table (end_at ends v (get_or es k 0)) (end_at ends v (get_or es (place_after (length es) k) 0)) 0 ld)
-  ];
-  others = λ d n.
-      get_or-set_other table (end_at ends v (get_or es k 0)) d (end_at ends v (get_or es (place_after (length es) k) 0)) 0 (n k (omega arith))
-      ∙ h.others d (λ j l. n j (omega arith));
-}
-
-pub lists_more : (n : ℕ) (ends : List (ℕ × ℕ)) (orders : List (List ℕ)) → ((v : ℕ) → v < n → IsLawful ends v (order_at orders v))
-    → (v : ℕ) (old table : List ℕ) → v < n → AreListsLinked ends orders v old → length table ≡ length old
-    → IsListLinked ends v (order_at orders v) (length (order_at orders v)) old table → AreListsLinked ends orders (v + 1) table
-lists_more n ends orders lawful v old table lv h len r = record {
-  size = len ∙ h.size;
-  done = λ u k l lk. elim (cases_lt u v) [
-    | inl a ↦
-        let g : Embedded = record { vertices = n; ends = ends; orders = [] } in
-        r.others (end_at ends u (get_or (order_at orders u) k 0)) (λ j lj q.
-        (let same : u ≡ v = sym (at_end g u (get_or (order_at orders u) k 0) ((lawful u (omega arith)).only k lk)) ∙ ap (at g) q
-        ∙ at_end g v (get_or (order_at orders v) j 0) ((lawful v lv).only j lj) in omega arith))
-        ∙ h.done u k a lk
-    | inr b ↦
-        let e : v ≡ u = omega arith in
-        subst (λ z. k < length (order_at orders z) → get_or table (end_at ends z (get_or (order_at orders z) k 0)) 0
-        ≡ end_at ends z (get_or (order_at orders z) (place_after (length (order_at orders z)) k) 0)) e (λ lk2. r.done k lk2) lk
-  ];
-}
-
--- ---- first ends read again
-pub firsts_again : (n : ℕ) (ends : List (ℕ × ℕ)) (orders : List (List ℕ)) (first again : List ℕ) → ((v : ℕ) → v < n → AreEdges ends (order_at orders v))
-    → length ends < 2 ^ 30 → AreFirsts n ends orders first → AreSameFirsts (2 * length ends) first again → AreFirsts n ends orders again
-firsts_again n ends orders first again listed few f s = record {
-  size = s.size ∙ f.size;
-  each = λ v l some.
-      let q : get_or first v 0 ≡ end_at ends v (get_or (order_at orders v) 0 0) = f.each v l some in
-      s.each v (omega (arith, f.size)) (omega (arith, end_below ends v (get_or (order_at orders v) 0 0) (listed v l 0 some))) ∙ q;
-  none = λ v l z. (let q : get_or first v 0 ≡ no_first = f.none v l z in s.none v (omega (arith, f.size)) (omega arith));
-}
-
 -- ---- a ring that follows a list is the list
 pub ring-is : (cw ds : List ℕ) (d : ℕ) → (0 < length ds → d ≡ get_or ds 0 0) → ((j : ℕ) → suc j < length ds → get_or cw (get_or ds j 0) 0 ≡ get_or ds (suc j) 0)
     → ring cw (length ds) d ≡ ds
@@ -115,10 +60,10 @@ pub length-ring : (cw : List ℕ) (k d : ℕ) → length (ring cw k d) ≡ k
 length-ring cw zero d = refl
 length-ring cw (suc k) d = ap suc (length-ring cw k (get_or cw d 0))
 
-place_inner : (n k : ℕ) → k + 1 < n → place_after n k ≡ suc k
+pub place_inner : (n k : ℕ) → k + 1 < n → place_after n k ≡ suc k
 place_inner n k l = cond-true (nat_lt (k + 1) n) (k + 1) 0 (lt-ltb (k + 1) n l) ∙ omega arith
 
-place_last : (n k : ℕ) → n ≤ k + 1 → place_after n k ≡ 0
+pub place_last : (n k : ℕ) → n ≤ k + 1 → place_after n k ≡ 0
 place_last n k l = cond-false (nat_lt (k + 1) n) (k + 1) 0 (le-ltb (k + 1) n l)
 
 -- ---- a graph by its parts
@@ -133,19 +78,7 @@ listed_edges g h orders eq size edges v l k lk =
     let n : length orders ≡ h.vertices = size ∙ ap (λ (z : Graph). z.vertices) eq in
     All-get_or (λ e. e < length h.ends) (order_at orders v) k 0 lk (All-get_or (All (λ e. e < length h.ends)) orders v [] (omega arith) moved)
 
--- ---- permutations
-pub permutes_too : (n : ℕ) (f h : ℕ → ℕ) → Permutes n h → ((d : ℕ) → d < n → f d ≡ h d) → Permutes n f
-permutes_too n f h perm same = record {
-  stays = λ d l. subst (λ z. z < n) (sym (same d l)) (perm.stays d l);
-  apart = λ c d lc ld q. perm.apart c d lc ld (sym (same c lc) ∙ q ∙ same d ld);
-}
-
--- a table that leads back stays within
-pub back_in : (cw ccw : List ℕ) → Permutes (length cw) (λ d. get_or cw d 0) → IsBack cw ccw → (d : ℕ) → d < length cw → get_or ccw d 0 < length cw
-back_in cw ccw perm back d l =
-    let r = before (length cw) (λ d. get_or cw d 0) perm d l in
-    subst (λ z. z < length cw) (sym (ap (λ z. get_or ccw z 0) (sym r.2) ∙ back.each r.0 r.1)) r.1
-
+-- ---- the tables of lists that are lawful
 module _ (g : Graph) (orders : List (List ℕ)) (within : HasEnds g) (no_loop : HasNoLoop g)
     (listed : (v : ℕ) → v < g.vertices → AreEdges g.ends (order_at orders v)) (lawful : (v : ℕ) → v < g.vertices → IsLawful g.ends v (order_at orders v)) where
   order_is : (v : ℕ) → v < g.vertices → order (embed g orders) v ≡ ends_at g.ends orders v
@@ -200,6 +133,15 @@ module _ (g : Graph) (orders : List (List ℕ)) (within : HasEnds g) (no_loop : 
   vertex_below : (d : ℕ) → d < darts (embed g orders) → at (embed g orders) d < g.vertices
   vertex_below = at_below (embed g orders) within
 
+  -- each end has a place in a list
+  pub placed : (d : ℕ) → d < 2 * length g.ends → (v : ℕ) × (k : ℕ) × (v < g.vertices) × (k < length (order_at orders v)) × (end_at g.ends v (get_or (order_at orders v) k 0) ≡ d)
+  placed d l =
+      let lv : at (embed g orders) d < g.vertices = vertex_below d l in
+      let p : (i : ℕ) × (i < length (order (embed g orders) (at (embed g orders) d))) × (get_or (order (embed g orders) (at (embed g orders) d)) i 0 ≡ d) =
+      has_orders.listed d l in
+      let li : p.0 < length (order_at orders (at (embed g orders) d)) = omega (arith, p.1, order_length (at (embed g orders) d) lv) in
+      (at (embed g orders) d, p.0, lv, li, sym (entry (at (embed g orders) d) p.0 lv li) ∙ p.2)
+
   next_entry : (v k : ℕ) → v < g.vertices → k < length (order_at orders v)
       → next (embed g orders) (end_at g.ends v (get_or (order_at orders v) k 0)) ≡ end_at g.ends v (get_or (order_at orders v) (place_after (length (order_at orders v)) k) 0)
   next_entry v k lv lk =
@@ -230,12 +172,6 @@ module _ (g : Graph) (orders : List (List ℕ)) (within : HasEnds g) (no_loop : 
         subst (λ z. get_or cw z 0 ≡ next (embed g orders) z) q
         (h.done (at (embed g orders) d) p.0 lv li ∙ sym (next_entry (at (embed g orders) d) p.0 lv li));
   }
-
-  pub permutes : (cw : List ℕ) → AreListsLinked g.ends orders g.vertices cw → Permutes (length cw) (λ d. get_or cw d 0)
-  permutes cw h =
-      let t : IsTableOf (2 * length g.ends) (next (embed g orders)) cw = table_of cw h in
-      subst (λ z. Permutes z (λ d. get_or cw d 0)) (sym t.size)
-      (permutes_too (2 * length g.ends) (λ d. get_or cw d 0) (next (embed g orders)) (next-permutes (embed g orders) has_orders vertex_below) t.each)
 
   ring_row : (first degree cw : List ℕ) → AreFirsts g.vertices g.ends orders first → AreDegrees g.vertices g.ends (length g.ends) degree
       → AreListsLinked g.ends orders g.vertices cw → (v : ℕ) → v < g.vertices → ring_at first degree cw v ≡ ends_at g.ends orders v

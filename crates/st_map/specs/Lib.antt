@@ -8,4 +8,5 @@ pub mod Remove
 pub mod Laws
 pub mod Links
 pub mod Tables
+pub mod Chains
 pub mod Fault

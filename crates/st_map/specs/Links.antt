@@ -4,13 +4,13 @@
 --   IsLinked ..        each end's record is found by its key, and has the keys of its twin and of both its neighbours
 --   AreLinks ..        the records, the keys and the first keys belong together, and no other record lives
 --   links_of ..        the tables by number of an end that the links stand for
---   AreNamed, AreKeysOf, AreSameFirsts    what the loops over tables hold and leave
+--   AreNamed ..        each end has a record, which tells its number
 --   HasRoom ..         a map has room for so many more vertices and edges
 --   SameLinks, RoomGrows, SameRooms, HasRoomForMore    tables and room before and after
 --   SplitsEnds ..      what a split does to the records
 --   PutsEnd, NamesEnds ..   what an insertion does to them
 --   RenumbersEnd, TakesEnd, next_first    what a removal does to them and to a first key
-use Rattle.std.specs.Prelude.{ℕ, ◌≡◌, ◌≢◌, ◌+◌, ◌*◌, ◌^◌, ◌<◌, ◌≤◌, ◌==◌, suc, cond, List, map, length, slice_index, slice_index_or, Option, Some, None, unwrap_or}
+use Rattle.std.specs.Prelude.{ℕ, ◌≡◌, ◌≢◌, ◌+◌, ◌*◌, ◌^◌, ◌<◌, ◌≤◌, ◌==◌, suc, cond, List, map, length, slice_index_or, Option, Some, None, unwrap_or}
 use Rattle.std.specs.List.{range_with_len}
 use Rattle.slab.specs.Slab.{Slab, get, slab_len}
 use Rattle.st_ids.specs.Ends.{twin, edge_of, is_out}
@@ -79,18 +79,6 @@ pub record AreLinks (s : Slab End) (keys : List (ℕ × ℕ)) (first : List (Opt
 pub record AreNamed (s : Slab End) (edges : ℕ) (keys : List (ℕ × ℕ)) : Type 0 where
   pub size : length keys ≡ edges
   pub each : (d : ℕ) → d < 2 * edges → (r : End) × (get s (key_of keys d) ≡ Some r) × (r.dart ≡ d)
-
--- each of the first v numbers that is an end has its key, and each other one has none
-pub record AreKeysOf (keys : List (ℕ × ℕ)) (first : List ℕ) (v : ℕ) (found : List (Option ℕ)) : Type 0 where
-  pub size : length found ≡ v
-  pub some : (u : ℕ) → u < v → slice_index first u < 2 * length keys → slice_index_or found u None ≡ Some (key_of keys (slice_index first u))
-  pub none : (u : ℕ) → u < v → 2 * length keys ≤ slice_index first u → slice_index_or found u None ≡ None
-
--- the tables have the same ends below n, and no end at the same vertices
-pub record AreSameFirsts (n : ℕ) (old new : List ℕ) : Type 0 where
-  pub size : length new ≡ length old
-  pub each : (v : ℕ) → v < length old → slice_index old v < n → slice_index new v ≡ slice_index old v
-  pub none : (v : ℕ) → v < length old → n ≤ slice_index old v → slice_index new v ≡ no_first
 
 -- the tables are as before
 pub record SameLinks (old new : LinkTables) : Type 0 where

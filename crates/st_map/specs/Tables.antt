@@ -56,11 +56,6 @@ pub record IsBack (cw ccw : List ℕ) : Type 0 where
   pub size : length ccw ≡ length cw
   pub each : (d : ℕ) → d < length cw → slice_index ccw (slice_index cw d) ≡ d
 
--- the first d entries are led back
-pub record IsBackBelow (cw : List ℕ) (d : ℕ) (ccw : List ℕ) : Type 0 where
-  pub size : length ccw ≡ length cw
-  pub each : (c : ℕ) → c < d → slice_index ccw (slice_index cw c) ≡ c
-
 -- what a table of first ends has for a vertex with no edge
 abbrev pub no_first : ℕ
 no_first = 4294967295
@@ -114,11 +109,6 @@ pub record IsLawfulUpTo (ends : List (ℕ × ℕ)) (v : ℕ) (es : List ℕ) (ol
 -- the place after k in a cyclic list
 abbrev pub place_after : ℕ → ℕ → ℕ
 place_after len k = cond (nat_lt (k + 1) len) (k + 1) 0
-
--- the ends of the first k edges of the list have their next, and the other entries are as before
-pub record IsListLinked (ends : List (ℕ × ℕ)) (v : ℕ) (es : List ℕ) (k : ℕ) (old new : List ℕ) : Type 0 where
-  pub done : (j : ℕ) → j < k → slice_index new (end_at ends v (slice_index es j)) ≡ end_at ends v (slice_index es (place_after (length es) j))
-  pub others : (d : ℕ) → ((j : ℕ) → j < k → d ≢ end_at ends v (slice_index es j)) → slice_index new d ≡ slice_index old d
 
 -- the ends at the vertices below v have their next
 pub record AreListsLinked (ends : List (ℕ × ℕ)) (orders : List (List ℕ)) (v : ℕ) (cw : List ℕ) : Type 0 where

@@ -4,13 +4,18 @@
 //! next end at its vertex. So an edge is renumbered without a change of links.
 ghost use Rattle.std.specs.Prelude.{◌≡◌, ◌≢◌, ◌+◌, ◌*◌, ◌<◌, ◌≤◌, ◌^◌, ◌++◌, ◌∷◌, [], ℕ, length, map, slice_index, suc, IfOk, OnOk, Some};
 ghost use Rattle.slab.specs.Slab.{ContainsKey, HasRoomFor, Updates, get, slab_len};
-ghost use Rattle.st_map.specs.Links.{AreKeysOf, AreNamed, AreSameFirsts, HasRoomForMore, InsertsEnds, IsLinked, NamesEnds, PutsEnd, RenumbersEnd, RoomGrows, SameLinks, SameRooms, SplitsEnds, TakesEnd, end_in, key_of, next_first};
-ghost use Rattle.st_ids.specs.Ends.{twin};
-ghost use Rattle.st_map.specs.Tables.{AreLinksRemoved, AreLinksSplit, IsBack, first_left, put_entry, renumbered};
+ghost use Rattle.st_map.specs.Chains.{AreFirstKeysOf, AreListsChained, IsListChained, first_key, linked_to};
+ghost use Rattle.st_map.specs.Links.{AreNamed, HasRoomForMore, InsertsEnds, NamesEnds, PutsEnd, RenumbersEnd, RoomGrows, SameLinks, SameRooms, SplitsEnds, TakesEnd, end_in, key_of, next_first};
+ghost use Rattle.st_ids.specs.EdgeNumbers.{numbers};
+ghost use Rattle.st_ids.specs.Graph.{AreWithin, tail_of, head_of};
+ghost use Rattle.st_map.specs.Orders.{order_at};
+ghost use Rattle.st_map.specs.Tables.{AreEdges, AreFirsts, AreLinksRemoved, AreLinksSplit, AreListsLinked, IsBack, IsLawful, first_left, put_entry, renumbered};
 
+use crate::listing::{end_of, following};
+use crate::orders::{edge_at, list_len};
 use crate::room::make_room;
 use slab::Slab;
-use st_ids::{Dart, NoMemory};
+use st_ids::{Dart, EdgeId, EdgeList, IdVec, NoMemory, VertexId};
 use std::alloc::{AllocError, Global};
 use std::marker::Model;
 
@@ -252,7 +257,6 @@ fn name_ends(alloc: Global, edges: u32) -> Result<(Slab<End>, Vec<(usize, usize)
     let mut ends = Slab::with_capacity(alloc, 2 * edges as usize)?;
     let mut keys = Vec::with_capacity(alloc, edges as usize)?;
     for e in 0..edges {
-        ends.reserve(2)?;
         let tail = ends.insert_reserved(lone_end(2 * e));
         let head = ends.insert_reserved(lone_end(2 * e + 1));
         keys.push((tail, head))?;
@@ -272,54 +276,88 @@ fn lone_end(dart: u32) -> End
     }
 }
 
-/// The end with the links that the tables tell.
-fn linked_end(keys: &[(usize, usize)], d: u32, cw: u32, ccw: u32) -> End
+/// Gives an end its twin and these neighbours, and answers its key.
+fn link_end(ends: &mut Slab<End>, keys: &[(usize, usize)], d: u32, cw: usize, ccw: usize) -> usize
     requires few { length keys.now < 2 ^ 30 }
-    requires ends { (d < 2 * length keys.now) × (cw < 2 * length keys.now) × (ccw < 2 * length keys.now) }
-    ensures { result ≡ record { dart = d; twin = key_of keys.now (twin d); cw = key_of keys.now cw; ccw = key_of keys.now ccw } }
+    requires end { d < 2 * length keys.now }
+    requires there { ContainsKey ends.old (key_of keys.now d) }
+    ensures key { result ≡ key_of keys.now d }
+    ensures updates { Updates ends.old ends.new (key_of keys.now d) (Some (linked_to keys.now d cw ccw)) }
+    ensures len { slab_len ends.new ≡ slab_len ends.old }
 {
-    End {
-        dart: d,
-        twin: key_at(keys, Dart(d).twin().0),
-        cw: key_at(keys, cw),
-        ccw: key_at(keys, ccw),
-    }
+    let key = key_at(keys, d);
+    let twin = key_at(keys, Dart(d).twin().0);
+    set_end(
+        ends,
+        key,
+        End {
+            dart: d,
+            twin,
+            cw,
+            ccw,
+        },
+    );
+    key
 }
 
-/// Gives each end its links.
-fn link_ends(ends: &mut Slab<End>, keys: &[(usize, usize)], cw: &[u32], ccw: &[u32])
-    requires few { length keys.now < 2 ^ 30 }
+/// Gives the ends of a list their links, and answers the key of the first.
+fn link_list(
+    ends: &mut Slab<End>,
+    keys: &[(usize, usize)],
+    arcs: &[(u32, u32)],
+    list: &[EdgeId],
+    v: u32,
+) -> Option<usize>
+    requires few { length arcs.now < 2 ^ 30 }
+    requires size { length keys.now ≡ length arcs.now }
     requires named { AreNamed ends.old (length keys.now) keys.now }
-    requires cw { (length cw.now ≡ 2 * length keys.now) × ((d : ℕ) → d < length cw.now → slice_index cw.now d < length cw.now) }
-    requires ccw { (length ccw.now ≡ length cw.now) × ((d : ℕ) → d < length cw.now → slice_index ccw.now d < length cw.now) }
-    ensures linked { IsLinked ends.new (length cw.now) (key_of keys.now) (λ d. key_of keys.now (twin d)) (slice_index cw.now) (slice_index ccw.now) }
+    requires edges { AreEdges arcs.now (numbers list.now) }
+    requires lawful { IsLawful arcs.now v (numbers list.now) }
+    ensures chained { IsListChained ends.old ends.new keys.now arcs.now v (numbers list.now) (length (numbers list.now)) }
+    ensures first { result ≡ first_key keys.now arcs.now v (numbers list.now) }
+{
+    let len = list_len(list);
+    if len == 0 {
+        return None;
+    }
+    let first = end_of(arcs, edge_at(list, 0), v);
+    let last = end_of(arcs, edge_at(list, len - 1), v);
+    let mut at = first;
+    let mut ccw = key_at(keys, last);
+    for k in 0..len {
+        let next = end_of(arcs, edge_at(list, following(k, len)), v);
+        let cw = key_at(keys, next);
+        ccw = link_end(ends, keys, at, cw, ccw);
+        at = next;
+    }
+    Some(key_at(keys, first))
+}
+
+/// Gives each end its links, and answers the keys of the first ends.
+fn link_lists(
+    alloc: Global,
+    ends: &mut Slab<End>,
+    keys: &[(usize, usize)],
+    arcs: &[(u32, u32)],
+    orders: &IdVec<VertexId, EdgeList>,
+    n: u32,
+) -> Result<Vec<Option<usize>>, AllocError>
+    requires few { length arcs.now < 2 ^ 30 }
+    requires size { length keys.now ≡ length arcs.now }
+    requires lists { length orders.now ≡ n }
+    requires named { AreNamed ends.old (length keys.now) keys.now }
+    requires edges { (v : ℕ) → v < n → AreEdges arcs.now (order_at orders.now v) }
+    requires lawful { (v : ℕ) → v < n → IsLawful arcs.now v (order_at orders.now v) }
+    ensures chained { IfOk result (λ _. AreListsChained ends.new keys.now arcs.now orders.now n) }
+    ensures first { IfOk result (λ f. AreFirstKeysOf keys.now arcs.now orders.now n f.items) }
     ensures count { slab_len ends.new ≡ slab_len ends.old }
 {
-    for d in 0..cw.len() as u32 {
-        let end = linked_end(keys, d, cw[d as usize], ccw[d as usize]);
-        set_end(ends, key_at(keys, d), end);
+    let mut first = Vec::with_capacity(alloc, n as usize)?;
+    for v in 0..n {
+        let key = link_list(ends, keys, arcs, orders.get(VertexId(v)).items(), v);
+        first.push(key)?;
     }
-}
-
-/// The keys of the first ends. A number that is no end gives none.
-fn first_keys(
-    alloc: Global,
-    keys: &[(usize, usize)],
-    first: &[u32],
-) -> Result<Vec<Option<usize>>, AllocError>
-    requires few { length keys.now < 2 ^ 30 }
-    ensures { IfOk result (λ f. AreKeysOf keys.now first.now (length first.now) f.items) }
-{
-    let mut found = Vec::with_capacity(alloc, first.len())?;
-    for v in 0..first.len() {
-        let d = first[v];
-        found.push(if (d as usize) < 2 * keys.len() {
-            Some(key_at(keys, d))
-        } else {
-            None
-        })?;
-    }
-    Ok(found)
+    Ok(first)
 }
 
 /// Makes room for so many more records.
@@ -335,27 +373,27 @@ fn make_room_for_ends(ends: &mut Slab<End>, more: usize) -> Result<(), NoMemory>
 }
 
 impl Links {
-    /// The links that tables tell: the clockwise and the counter-clockwise next of each end, and the first end at each
-    /// vertex. A number that is no end stands for no first end.
+    /// The links of the edges' ends by the clockwise lists of edges at the vertices.
     ///
     /// Cost: O(V + E) time. Not proved.
-    pub fn from_tables(
+    pub fn from_lists(
         alloc: Global,
-        cw: &[u32],
-        ccw: &[u32],
-        first: &[u32],
-        edges: u32,
+        n: u32,
+        arcs: &[(u32, u32)],
+        orders: &IdVec<VertexId, EdgeList>,
     ) -> Result<Links, AllocError>
-        requires few { edges < 2 ^ 30 }
-        requires cw { (length cw.now ≡ 2 * edges) × ((d : ℕ) → d < length cw.now → slice_index cw.now d < length cw.now) }
-        requires ccw { (length ccw.now ≡ length cw.now) × ((d : ℕ) → d < length cw.now → slice_index ccw.now d < length cw.now) }
-        ensures cw { IfOk result (λ l. l.cw ≡ cw.now) }
-        ensures ccw { IfOk result (λ l. l.ccw ≡ ccw.now) }
-        ensures first { IfOk result (λ l. AreSameFirsts (length cw.now) first.now l.first) }
+        requires few { length arcs.now < 2 ^ 30 }
+        requires within { AreWithin n arcs.now }
+        requires no_loop { (e : ℕ) → e < length arcs.now → tail_of arcs.now e ≢ head_of arcs.now e }
+        requires lists { length orders.now ≡ n }
+        requires edges { (v : ℕ) → v < n → AreEdges arcs.now (order_at orders.now v) }
+        requires lawful { (v : ℕ) → v < n → IsLawful arcs.now v (order_at orders.now v) }
+        ensures cw { IfOk result (λ l. AreListsLinked arcs.now orders.now n l.cw) }
+        ensures ccw { IfOk result (λ l. IsBack l.cw l.ccw) }
+        ensures first { IfOk result (λ l. AreFirsts n arcs.now orders.now l.first) }
     {
-        let (mut ends, keys) = name_ends(alloc, edges)?;
-        link_ends(&mut ends, &keys, cw, ccw);
-        let first = first_keys(alloc, &keys, first)?;
+        let (mut ends, keys) = name_ends(alloc, arcs.len() as u32)?;
+        let first = link_lists(alloc, &mut ends, &keys, arcs, orders, n)?;
         Ok(Links { ends, keys, first })
     }
 

@@ -9,7 +9,6 @@ ghost use Rattle.st_map.specs.Split.{split};
 ghost use Rattle.st_map.specs.Orders.{HasEdges, HasNoLoop, IsEdgeAt, IsOrderAt, embed, order_at};
 
 use crate::links::Links;
-use crate::listing::{first_ends, lead_back, link_lists};
 use crate::orders::{MapFault, check_orders, degrees};
 use crate::room::make_room;
 use st_ids::{Dart, Digraph, EdgeId, EdgeList, IdVec, NoMemory, VertexId};
@@ -93,10 +92,7 @@ impl Map {
         let ends = graph.ends();
         let degree = degrees(alloc, n, ends)?;
         check_orders(alloc, n, ends, &degree, orders)?;
-        let cw = link_lists(alloc, n, ends, orders)?;
-        let ccw = lead_back(alloc, &cw)?;
-        let first = first_ends(alloc, n, ends, orders)?;
-        let links = Links::from_tables(alloc, &cw, &ccw, &first, graph.edges())?;
+        let links = Links::from_lists(alloc, n, ends, orders)?;
         let ends = copied(alloc, ends)?;
         Ok(Map {
             vertices: n,

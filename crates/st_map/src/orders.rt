@@ -38,18 +38,18 @@ impl From<AllocError> for MapFault {
 }
 
 /// How many edges a list has.
-pub fn list_len(list: &EdgeList) -> usize
-    ensures { result ≡ length list.now }
+pub fn list_len(list: &[EdgeId]) -> usize
+    ensures { result ≡ length (numbers list.now) }
 {
-    list.items().len()
+    list.len()
 }
 
 /// The edge at a place of a list.
-pub fn edge_at(list: &EdgeList, k: usize) -> u32
-    requires { k < length list.now }
-    ensures { result ≡ slice_index list.now k }
+pub fn edge_at(list: &[EdgeId], k: usize) -> u32
+    requires { k < length (numbers list.now) }
+    ensures { result ≡ slice_index (numbers list.now) k }
 {
-    list.items()[k].0
+    list[k].0
 }
 
 /// How many edges there are at each vertex.
@@ -78,12 +78,12 @@ fn is_end(ends: &[(u32, u32)], e: u32, v: u32) -> bool
 }
 
 /// Whether the list has the edges at v, each once, and no other.
-fn is_lawful(list: &EdgeList, v: u32, ends: &[(u32, u32)], degree: u32, seen: &mut [u32]) -> bool
+fn is_lawful(list: &[EdgeId], v: u32, ends: &[(u32, u32)], degree: u32, seen: &mut [u32]) -> bool
     requires size { length seen.old ≡ length ends.now }
     requires fresh { (e : ℕ) → e < length ends.now → slice_index seen.old e ≢ v }
-    requires edges { AreEdges ends.now list.now }
+    requires edges { AreEdges ends.now (numbers list.now) }
     requires degree { degree ≡ count_below (length ends.now) (is_at ends.now v) }
-    ensures lawful { IsTrue result ↔ IsLawful ends.now v list.now }
+    ensures lawful { IsTrue result ↔ IsLawful ends.now v (numbers list.now) }
     ensures seen { (e : ℕ) → e < length ends.now → (slice_index seen.new e ≡ v) ⊎ (slice_index seen.new e ≡ slice_index seen.old e) }
 {
     let len = list_len(list);
@@ -118,7 +118,13 @@ pub fn check_orders(
     let mut seen = vec![in alloc; u32::MAX; ends.len()]?;
     for v in 0..n {
         let vertex = VertexId(v);
-        if !is_lawful(orders.get(vertex), v, ends, degree[v as usize], &mut seen) {
+        if !is_lawful(
+            orders.get(vertex).items(),
+            v,
+            ends,
+            degree[v as usize],
+            &mut seen,
+        ) {
             return Err(MapFault::BadOrder { vertex });
         }
     }

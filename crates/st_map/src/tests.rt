@@ -58,8 +58,8 @@ fn is_loopless(graph: &Digraph) -> bool
 fn has_edges_only(edges: u32, list: &EdgeList) -> bool
     ensures { IsTrue result → (k : ℕ) → k < length list.now → slice_index list.now k < edges }
 {
-    for k in 0..orders::list_len(list) {
-        if orders::edge_at(list, k) >= edges {
+    for k in 0..orders::list_len(list.items()) {
+        if orders::edge_at(list.items(), k) >= edges {
             return false;
         }
     }

@@ -2,6 +2,7 @@ use Rattle.std.proofs.Common.{◌≡◌, ℕ, ◌<◌, inl, inr, List, [], lengt
 use Rattle.std.specs.Vec.{with_items}
 use Rattle.std.proofs.lemmas.List.{get_or_default, with_items_is}
 use Rattle.std.proofs.lemmas.Bool.{cases_lt, both_ways}
+use Rattle.st_ids.specs.EdgeNumbers.{numbers}
 use Rattle.st_map.specs.Orders.{IsOrderAt, order_at}
 use Rattle.st_map.specs.Tables.{AreEdges, IsLawful}
 use Rattle.st_map.proofs.OrderLemmas.{degree_is, order_of, lawful_of}
@@ -10,8 +11,8 @@ use Rattle.st_map.proofs.orders.check_orders.Goals as goal
 pub is_lawful-requires-clause-edges : goal.is_lawful-requires-clause-edges
 is_lawful-requires-clause-edges c =
     let lv : c.loop-v.v < length c.args.orders.now = omega (arith, c.loop-v-test.true, c.requires.size) in
-    let q : c.get.result.now ≡ order_at c.args.orders.now c.loop-v.v =
-    c.get.ensures.read ∙ get_or_default c.args.orders.now c.loop-v.v c.get.result.now [] lv in
+    let q : numbers c.items.result.now ≡ order_at c.args.orders.now c.loop-v.v =
+    c.items.ensures ∙ c.get.ensures.read ∙ get_or_default c.args.orders.now c.loop-v.v c.get.result.now [] lv in
     subst (λ z. AreEdges c.args.ends.now z) (sym q) (c.requires.edges c.loop-v.v c.loop-v-test.true)
 
 pub is_lawful-requires-clause-degree : goal.is_lawful-requires-clause-degree
@@ -21,10 +22,10 @@ is_lawful-requires-clause-degree c =
 pub returns-then-not-is_lawful : goal.returns-then-not-is_lawful
 returns-then-not-is_lawful c =
     let lv : c.loop-v.v < length c.args.orders.now = omega (arith, c.loop-v-test.true, c.requires.size) in
-    let q : c.get.result.now ≡ order_at c.args.orders.now c.loop-v.v =
-    c.get.ensures.read ∙ get_or_default c.args.orders.now c.loop-v.v c.get.result.now [] lv in (
+    let q : numbers c.items.result.now ≡ order_at c.args.orders.now c.loop-v.v =
+    c.items.ensures ∙ c.get.ensures.read ∙ get_or_default c.args.orders.now c.loop-v.v c.get.result.now [] lv in (
       c.loop-v-test.true,
-      λ o. (let lawful : IsLawful c.args.ends.now c.loop-v.v c.get.result.now =
+      λ o. (let lawful : IsLawful c.args.ends.now c.loop-v.v (numbers c.items.result.now) =
           subst (λ z. IsLawful c.args.ends.now c.loop-v.v z) (sym q) (lawful_of c.args.ends.now c.loop-v.v (order_at c.args.orders.now c.loop-v.v) o) in
           both_ways c.is_lawful.result c.if-not-is_lawful.true (c.is_lawful.ensures.lawful.1 lawful)),
       c.loop-v.invariant.done,
@@ -33,8 +34,8 @@ returns-then-not-is_lawful c =
 pub loop-v-preserved : goal.loop-v-preserved
 loop-v-preserved c =
     let lv : c.loop-v.v < length c.args.orders.now = omega (arith, c.loop-v-test.true, c.requires.size) in
-    let q : c.get.result.now ≡ order_at c.args.orders.now c.loop-v.v =
-    c.get.ensures.read ∙ get_or_default c.args.orders.now c.loop-v.v c.get.result.now [] lv in
+    let q : numbers c.items.result.now ≡ order_at c.args.orders.now c.loop-v.v =
+    c.items.ensures ∙ c.get.ensures.read ∙ get_or_default c.args.orders.now c.loop-v.v c.get.result.now [] lv in
     let old : c.deref_mut.result.now ≡ c.loop-v.seen.items = c.deref_mut.ensures.value in
     let len : length c.is_lawful.new.seen ≡ length c.loop-v.seen.items = c.is_lawful.auto.seen ∙ ap length old in
     let is : (with_items c.loop-v.seen c.is_lawful.new.seen).items ≡ c.is_lawful.new.seen = with_items_is c.loop-v.seen c.is_lawful.new.seen (len ∙ sym c.loop-v.seen.ok.0) in
