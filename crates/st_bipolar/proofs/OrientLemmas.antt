@@ -10,6 +10,7 @@ use Rattle.st_test.specs.Planar.{IsPlanarSt}
 use Rattle.st_ids.specs.Undirected.{Joins, UndirectedWalk, rest, pass, IsJoined, IsConnected}
 use Rattle.st_bipolar.specs.Cuts.{CutsOff, IsStNumbering}
 use Rattle.st_bipolar.specs.Orientation.{IsOrientation, IsPlane, IsTurned, OrientLaw, falls, turned_end}
+use Rattle.st_bipolar.specs.Turning.{AreTurnedEnds, with_lists}
 use Rattle.std.specs.Prelude.{slice_index, cond}
 use Rattle.st_ids.specs.Ends.{edge_of, twin}
 use Rattle.st_map.specs.Orders.{IsEdgeAt}
@@ -262,6 +263,10 @@ oriented_by g s t outer P r N e ts tt' b same h T =
       turned = T;
       planar = subst (IsPlanarSt h s t) (ap (λ z. cond z (twin outer) outer) (sym (same (edge_of outer) (edge_of-below (edges g) outer P.outer_in)))) O.planar;
     }
+
+-- the turned edges with the lists of the map
+pub turned_with : (g : Embedded) (b : ℕ → Bool) (f : Graph) → AreTurnedEnds g b (edges g) f → IsTurned g (with_lists g b f) b
+turned_with g b f E = record { vertices = E.vertices; count = E.count; tails = E.tails; heads = E.heads; orders = (turned_is g b).orders }
 
 -- ---- a fault forbids every orientation
 pub fault_forbids : (g : Embedded) (s t outer : ℕ) → IsPlane g s t outer → (f : OrientFault) → f ≢ NoMemory → IsOrientFault g s t outer f → (b : ℕ → Bool) (h : Embedded) → IsOrientation g s t outer b h → ⊥

@@ -7,7 +7,7 @@
 //! The route: `searching` goes through the graph once, depth first, and finds each vertex's low point; by these
 //! `faults` names a vertex that is apart or cuts off others; where none is, `ordering` puts each vertex beside its
 //! parent in one list, and `numbering` numbers the vertices by it; `turning` turns the edges that lead to the smaller
-//! number, and makes the map anew; `orienting` is the whole call.
+//! number, and makes the map anew; `orienting` has the whole calls, `orient`, and `direct` for who needs no map.
 #![tactic(auto)]
 
 mod faults;
@@ -20,4 +20,5 @@ mod orienting_tests;
 mod searching;
 mod turning;
 
-pub use orienting::{OrientFault, Oriented, orient};
+pub use orienting::{OrientFault, Oriented, direct, orient};
+pub use turning::Directed;

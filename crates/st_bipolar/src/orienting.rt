@@ -1,18 +1,17 @@
 //! An undirected plane graph made a planar st-graph, by turning some of its edges round.
-ghost use Rattle.std.specs.Prelude.{◌≡◌, ◌≢◌, ◌+◌, ◌*◌, ◌<◌, ◌^◌, ℕ, length, slice_index, IfOk, IfErr, IfSome};
-ghost use Rattle.st_map.specs.Embedded.{Touches, bare, darts, edges, faces};
+ghost use Rattle.std.specs.Prelude.{◌≡◌, ◌≢◌, ◌+◌, ◌<◌, ◌^◌, length, IfOk, IfErr, IfSome};
+ghost use Rattle.st_map.specs.Embedded.{Embedded, Touches, bare, darts, edges, faces};
 ghost use Rattle.st_map.specs.Orders.{HasNoLoop};
 ghost use Rattle.st_test.specs.Planar.{IsPlanarSt, outer_of};
-ghost use Rattle.st_bipolar.specs.Orientation.{IsOrientation, IsPlane, turned_end};
+ghost use Rattle.st_bipolar.specs.Orientation.{IsOrientation, IsTurned, turned_end};
 ghost use Rattle.st_ids.specs.Undirected.{IsConnected};
-ghost use Rattle.st_bipolar.specs.Cuts.{IsStNumbering};
 ghost use Rattle.st_bipolar.specs.OrientFault.{IsOrientFault};
-ghost use Rattle.st_bipolar.specs.Turning.{is_turned};
+ghost use Rattle.st_bipolar.specs.Turning.{is_turned, with_lists};
 
 use crate::faults::{first_apart, first_cut};
 use crate::numbering::st_numbering;
 use crate::searching::search;
-use crate::turning::{falling, turned_map};
+use crate::turning::{Directed, turn, turned_map};
 use st_ids::{Dart, EdgeId, IdVec, NoMemory, VertexId};
 use st_map::Map;
 use st_map::laws::rotation;
@@ -103,14 +102,6 @@ fn known(alloc: Global, map: Map, poles: Poles, outer: Dart) -> Result<StGraph, 
     }
 }
 
-/// The number of an end after the edges have been turned.
-fn new_end(turned: &IdVec<EdgeId, bool>, d: Dart) -> Dart
-    requires { d.0 < 2 * length turned.now }
-    ensures { result.0 ≡ turned_end (is_turned turned.now) d.0 }
-{
-    if *turned.get(d.edge()) { d.twin() } else { d }
-}
-
 /// The end that names the outer face, where Euler's formula holds and both poles are on that face.
 fn outer_face(
     alloc: Global,
@@ -148,33 +139,55 @@ fn outer_face(
     Ok(end)
 }
 
-/// The map with those edges turned that lead to the smaller number.
-fn turn(
+/// Turns some of the edges so that the map's lists make them a planar st-graph with source s and sink t, or names the
+/// first fault that forbids it. The outer face is that of the end `outer`, else that of the first end in the order of s.
+/// Each edge keeps its number. It is `orient` for a caller that needs no map.
+///
+/// Errors: the first fault, in the order of the variants; `NoMemory`.
+/// Cost: O(V + E) time. Not proved.
+pub fn direct(
     alloc: Global,
     map: &Map,
     s: VertexId,
     t: VertexId,
-    numbers: &IdVec<VertexId, u32>,
-    end: Dart,
-) -> Result<Oriented, NoMemory>
-    requires plane { IsPlane map.now.graph s.0 t.0 end.0 }
-    requires size { length numbers.now ≡ map.now.graph.vertices }
-    requires numbers { IsStNumbering (bare map.now.graph) s.0 t.0 (slice_index numbers.now) }
-    requires euler { map.now.graph.vertices + faces map.now.graph ≡ edges map.now.graph + 2 }
-    requires outer_s { Touches map.now.graph end.0 s.0 }
-    requires outer_t { Touches map.now.graph end.0 t.0 }
-    ensures orientation { IfOk result (λ o.
-        IsOrientation map.now.graph s.0 t.0 end.0 (is_turned o.turned) o.graph.map.graph) }
-    ensures source { IfOk result (λ o. o.graph.source ≡ s.0) }
-    ensures sink { IfOk result (λ o. o.graph.sink ≡ t.0) }
-    ensures outer { IfOk result (λ o. o.graph.outer ≡ turned_end (is_turned o.turned) end.0) }
-    ensures size { IfOk result (λ o. length o.turned ≡ edges map.now.graph) }
+    outer: Option<Dart>,
+) -> Result<Directed, OrientFault>
+    requires source { s.0 < map.now.graph.vertices }
+    requires sink { t.0 < map.now.graph.vertices }
+    requires poles { s.0 ≢ t.0 }
+    requires no_loop { HasNoLoop (bare map.now.graph) }
+    requires there { IfSome outer (λ d. d.0 < darts map.now.graph) }
+
+    // The digraph with the map's lists is an orientation, and so is each graph with these edges turned.
+    ensures orientation { IfOk result (λ d. IsOrientation map.now.graph s.0 t.0 (outer_of map.now.graph s.0 outer)
+        (is_turned d.turned) (with_lists map.now.graph (is_turned d.turned) d.graph)) }
+    ensures each { IfOk result (λ d. (h : Embedded) → IsTurned map.now.graph h (is_turned d.turned)
+        → IsOrientation map.now.graph s.0 t.0 (outer_of map.now.graph s.0 outer) (is_turned d.turned) h) }
+
+    ensures outer { IfOk result (λ d. d.outer.0 ≡ turned_end (is_turned d.turned) (outer_of map.now.graph s.0 outer)) }
+    ensures size { IfOk result (λ d. length d.turned ≡ edges map.now.graph) }
+    ensures fault { IfErr result (IsOrientFault map.now.graph s.0 t.0 (outer_of map.now.graph s.0 outer)) }
 {
-    let turned = falling(alloc, map, numbers)?;
-    let made = turned_map(alloc, map, &turned)?;
-    let poles = Poles { source: s, sink: t };
-    let graph = known(alloc, made, poles, new_end(&turned, end))?;
-    Ok(Oriented { graph, turned })
+    rotation(map);
+    let visit = search(alloc, map, s, t)?;
+    if let Some(vertex) = first_apart(alloc, map, &visit)? {
+        return Err(OrientFault::Apart {
+            vertex: VertexId(vertex),
+        });
+    }
+    let end = match outer_face(alloc, map, s, t, outer) {
+        Ok(end) => end,
+        Err(fault) => return Err(fault),
+    };
+    if let Some(off) = first_cut(alloc, map, &visit)? {
+        return Err(OrientFault::Cut {
+            cut: VertexId(off.cut),
+            apart: VertexId(off.apart),
+        });
+    }
+    let numbers = st_numbering(alloc, map, &visit)?;
+    let directed = turn(alloc, map, &numbers, end)?;
+    Ok(directed)
 }
 
 /// Turns some of the edges so that the map is a planar st-graph with source s and sink t, or names the first fault
@@ -203,24 +216,17 @@ pub fn orient(
     ensures size { IfOk result (λ o. length o.turned ≡ edges map.graph) }
     ensures fault { IfErr result (IsOrientFault map.graph s.0 t.0 (outer_of map.graph s.0 outer)) }
 {
-    rotation(&map);
-    let visit = search(alloc, &map, s, t)?;
-    if let Some(vertex) = first_apart(alloc, &map, &visit)? {
-        return Err(OrientFault::Apart {
-            vertex: VertexId(vertex),
-        });
-    }
-    let end = match outer_face(alloc, &map, s, t, outer) {
-        Ok(end) => end,
+    let found = match direct(alloc, &map, s, t, outer) {
+        Ok(found) => found,
         Err(fault) => return Err(fault),
     };
-    if let Some(off) = first_cut(alloc, &map, &visit)? {
-        return Err(OrientFault::Cut {
-            cut: VertexId(off.cut),
-            apart: VertexId(off.apart),
-        });
-    }
-    let numbers = st_numbering(alloc, &map, &visit)?;
-    let oriented = turn(alloc, &map, s, t, &numbers, end)?;
-    Ok(oriented)
+    let made = turned_map(alloc, &map, &found)?;
+    let Directed {
+        outer: end,
+        turned,
+        ..
+    } = found;
+    let poles = Poles { source: s, sink: t };
+    let graph = known(alloc, made, poles, end)?;
+    Ok(Oriented { graph, turned })
 }

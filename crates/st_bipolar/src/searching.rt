@@ -17,7 +17,7 @@ use std::alloc::{AllocError, Global};
 fn degrees(alloc: Global, map: &Map) -> Result<Vec<u32>, AllocError>
     ensures { IfOk result (λ v. AreSearchDegrees map.now.graph map.now.graph.vertices v.items) }
 {
-    let mut left = Vec::new(alloc);
+    let mut left = Vec::with_capacity(alloc, map.vertices() as usize)?;
     for v in 0..map.vertices() {
         left.push(map.degree(VertexId(v)))?;
     }
@@ -28,7 +28,7 @@ fn degrees(alloc: Global, map: &Map) -> Result<Vec<u32>, AllocError>
 fn first_ends(alloc: Global, map: &Map) -> Result<Vec<u32>, AllocError>
     ensures { IfOk result (λ v. AreSearchFirsts map.now.graph map.now.graph.vertices v.items) }
 {
-    let mut next = Vec::new(alloc);
+    let mut next = Vec::with_capacity(alloc, map.vertices() as usize)?;
     for v in 0..map.vertices() {
         let first = match map.at(VertexId(v)) {
             Some(d) => d.0,
