@@ -56,28 +56,53 @@ turned g d e p = record { other = λ q. p.other (sym q); tails = sym p.tails; he
 none_some : (f : EdgeId) (o : Option EdgeId) → o ≡ None → o ≡ Some f → ⊥
 none_some f o p q = let z : None ≡ Some f = sym p ∙ q in cc
 
+-- ---- the last edge
+-- the marking stays where the last edge is noted
+renoted : (g : Embedded) (noted next : (ℕ × ℕ) → Option EdgeId) (flags : List Bool) (k : ℕ) (e : EdgeId) → e.0 ≡ k → next (ends g k) ≡ Some e
+    → ((q : ℕ × ℕ) → next q ≡ cond (is_eq (compare_ends (ends g k) q)) (Some e) (noted q)) → IsMarking g noted flags (k + 1) → IsMarking g next flags (k + 1)
+renoted g noted next flags k e ek there others m = record {
+  size = m.size;
+  known = λ d l. elim (cases_Bool (is_eq (compare_ends (ends g k) (ends g d)))) [
+    | inl y ↦ (e, others (ends g d) ∙ ap (λ b. cond b (Some e) (noted (ends g d))) y)
+    | inr n ↦ (let f = m.known d l in (f.0, others (ends g d) ∙ ap (λ b. cond b (Some e) (noted (ends g d))) n ∙ f.1))
+  ];
+  told = λ q f is. elim (cases_Bool (is_eq (compare_ends (ends g k) q))) [
+    | inl y ↦
+        let same : ends g k ≡ q = same_ends (ends g k) q y in
+        let s : Some e ≡ Some f = sym (others q ∙ ap (λ b. cond b (Some e) (noted q)) y) ∙ is in
+        let i : e ≡ f = same_Some e f s in
+        let j : f.0 ≡ k = sym (ap (λ z. z.0) i) ∙ ek in
+        (omega (arith, j), ap (λ z. tail g z) j ∙ ap (λ z. z.0) same, ap (λ z. head g z) j ∙ ap (λ z. z.1) same)
+    | inr n ↦
+        let s : noted q ≡ Some f = sym (others q ∙ ap (λ b. cond b (Some e) (noted q)) n) ∙ is in
+        m.told q f s
+  ];
+  sound = m.sound;
+  marked = m.marked;
+}
+
 -- ---- one edge
-module _ (g : Embedded) (first : (ℕ × ℕ) → Option EdgeId) (flags : List Bool) (k : ℕ) (lk : k < edges g) (m : IsMarking g first flags k) where
-  pub mark_new : (next : (ℕ × ℕ) → Option EdgeId) (e : EdgeId) → e.0 ≡ k → first (ends g k) ≡ None → next (ends g k) ≡ Some e
-      → ((q : ℕ × ℕ) → next q ≡ cond (is_eq (compare_ends (ends g k) q)) (Some e) (first q)) → IsMarking g next flags (k + 1)
+module _ (g : Embedded) (noted : (ℕ × ℕ) → Option EdgeId) (flags : List Bool) (k : ℕ) (lk : k < edges g) (m : IsMarking g noted flags k) where
+  pub mark_new : (next : (ℕ × ℕ) → Option EdgeId) (e : EdgeId) → e.0 ≡ k → noted (ends g k) ≡ None → next (ends g k) ≡ Some e
+      → ((q : ℕ × ℕ) → next q ≡ cond (is_eq (compare_ends (ends g k) q)) (Some e) (noted q)) → IsMarking g next flags (k + 1)
   mark_new next e ek none there others = record {
     size = m.size;
     known = λ d l. elim (cases_eq d k) [
       | inl q ↦ subst (λ z. (f : EdgeId) × (next (ends g z) ≡ Some f)) (sym q) (e, there)
       | inr ne ↦ elim (cases_Bool (is_eq (compare_ends (ends g k) (ends g d)))) [
-        | inl y ↦ (e, others (ends g d) ∙ ap (λ b. cond b (Some e) (first (ends g d))) y)
-        | inr n ↦ (let f = m.known d (omega arith) in (f.0, others (ends g d) ∙ ap (λ b. cond b (Some e) (first (ends g d))) n ∙ f.1))
+        | inl y ↦ (e, others (ends g d) ∙ ap (λ b. cond b (Some e) (noted (ends g d))) y)
+        | inr n ↦ (let f = m.known d (omega arith) in (f.0, others (ends g d) ∙ ap (λ b. cond b (Some e) (noted (ends g d))) n ∙ f.1))
       ]
     ];
     told = λ q f is. elim (cases_Bool (is_eq (compare_ends (ends g k) q))) [
       | inl y ↦
           let same : ends g k ≡ q = same_ends (ends g k) q y in
-          let s : Some e ≡ Some f = sym (others q ∙ ap (λ b. cond b (Some e) (first q)) y) ∙ is in
+          let s : Some e ≡ Some f = sym (others q ∙ ap (λ b. cond b (Some e) (noted q)) y) ∙ is in
           let i : e ≡ f = same_Some e f s in
           let j : f.0 ≡ k = sym (ap (λ z. z.0) i) ∙ ek in
           (omega arith, ap (λ z. tail g z) j ∙ ap (λ z. z.0) same, ap (λ z. head g z) j ∙ ap (λ z. z.1) same)
       | inr n ↦
-          let s : first q ≡ Some f = sym (others q ∙ ap (λ b. cond b (Some e) (first q)) n) ∙ is in
+          let s : noted q ≡ Some f = sym (others q ∙ ap (λ b. cond b (Some e) (noted q)) n) ∙ is in
           let o = m.told q f s in
           (omega (arith, o.0), o.1, o.2)
     ];
@@ -93,13 +118,14 @@ module _ (g : Embedded) (first : (ℕ × ℕ) → Option EdgeId) (flags : List B
     where
       -- no earlier edge is parallel to the new one
       fresh : (d : ℕ) → d < k → IsParallel g k d → ⊥
-      fresh d l p = let f = m.known d l in none_some f.0 (first (ends g k)) none (sym (ap first (ends_same g d k p.tails p.heads)) ∙ f.1)
+      fresh d l p = let f = m.known d l in none_some f.0 (noted (ends g k)) none (sym (ap noted (ends_same g d k p.tails p.heads)) ∙ f.1)
 
-  pub mark_seen : (f : EdgeId) → first (ends g k) ≡ Some f → IsMarking g first (set (set flags f.0 true) k true) (k + 1)
-  mark_seen f is = record {
+  -- before the new edge is noted
+  seen_before : (f : EdgeId) → noted (ends g k) ≡ Some f → IsMarking g noted (set (set flags f.0 true) k true) (k + 1)
+  seen_before f is = record {
     size = length-set (set flags f.0 true) k true ∙ length-set flags f.0 true ∙ m.size;
     known = λ d l. elim (cases_eq d k) [
-      | inl q ↦ subst (λ z. (f : EdgeId) × (first (ends g z) ≡ Some f)) (sym q) (f, is)
+      | inl q ↦ subst (λ z. (f : EdgeId) × (noted (ends g z) ≡ Some f)) (sym q) (f, is)
       | inr ne ↦ m.known d (omega arith)
     ];
     told = λ q x h. (let o = m.told q x h in (omega (arith, o.0), o.1, o.2));
@@ -138,8 +164,12 @@ module _ (g : Embedded) (first : (ℕ × ℕ) → Option EdgeId) (flags : List B
         ])
       ]
 
-pub mark_end : (g : Embedded) (first : (ℕ × ℕ) → Option EdgeId) (flags : List Bool) (k : ℕ) → k ≡ edges g → IsMarking g first flags k → AreParallel g flags
-mark_end g first flags k q m = record {
+  pub mark_seen : (next : (ℕ × ℕ) → Option EdgeId) (e : EdgeId) → e.0 ≡ k → (f : EdgeId) → noted (ends g k) ≡ Some f → next (ends g k) ≡ Some e
+      → ((q : ℕ × ℕ) → next q ≡ cond (is_eq (compare_ends (ends g k) q)) (Some e) (noted q)) → IsMarking g next (set (set flags f.0 true) k true) (k + 1)
+  mark_seen next e ek f is there others = renoted g noted next (set (set flags f.0 true) k true) k e ek there others (seen_before f is)
+
+pub mark_end : (g : Embedded) (noted : (ℕ × ℕ) → Option EdgeId) (flags : List Bool) (k : ℕ) → k ≡ edges g → IsMarking g noted flags k → AreParallel g flags
+mark_end g noted flags k q m = record {
   size = m.size;
   exact = λ e l. ((λ h. m.sound e l h), (λ p. m.marked e p.0 (omega arith) (omega (arith, p.1)) p.2));
 }

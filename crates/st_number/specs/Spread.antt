@@ -2,10 +2,7 @@
 --   AreSpreadRows g lengths rows     each edge has its length, or 2 if that is more and the edge has a parallel
 --   AreSpreadBy lengths flags n rows   the rows of the first n edges, by flags
 -- Letters: g embedded graph, e edge, n number.
-use Rattle.std.specs.Prelude.{ℕ, ◌≡◌, ◌<◌, ◌≤◌, Bool, false, cond, List, length, max, slice_index, slice_index_or}
-use Rattle.std.specs.List.{All}
-use Rattle.st_ids.specs.declared.limits.TheConstants.{MOST_LENGTH}
-use Rattle.st_ids.specs.Lengths.{IsLength}
+use Rattle.std.specs.Prelude.{ℕ, ◌≡◌, ◌<◌, Bool, false, cond, List, length, max, slice_index, slice_index_or}
 use Rattle.st_map.specs.Embedded.{Embedded, edges}
 use Rattle.st_number.specs.Parallel.{HasParallel}
 
