@@ -20,7 +20,7 @@ abbrev pub turned : List EdgeId → List ℕ → List ℕ
 turned [] ys = ys
 turned (e ∷ es) ys = turned es (e.0 ∷ ys)
 
-turned-append : (xs ys : List EdgeId) (zs : List ℕ) → turned (xs ++ ys) zs ≡ turned ys (turned xs zs)
+pub turned-append : (xs ys : List EdgeId) (zs : List ℕ) → turned (xs ++ ys) zs ≡ turned ys (turned xs zs)
 turned-append [] ys zs = refl
 turned-append (x ∷ xs) ys zs = turned-append xs ys (x.0 ∷ zs)
 
@@ -93,7 +93,7 @@ pub record Read (waiting : List ℕ) (k r : ℕ) : Type 0 where
   pub positive : 1 ≤ r
   pub left : r - 1 + 1 ≡ get_or waiting k 0
 
-no_items : (xs : List EdgeId) → length xs ≡ 0 → xs ≡ []
+pub no_items : (xs : List EdgeId) → length xs ≡ 0 → xs ≡ []
 no_items [] q = refl
 no_items (x ∷ xs) q = let h : suc (length xs) ≡ 0 = q in absurd (omega arith)
 
@@ -188,18 +188,15 @@ module _ {g : SidesValue} (S : IsSides g) {b : Bool} where
         omega arith
 
 -- when no edge waits, the numbers are those meant
+pub numbers_end : {g : SidesValue} → IsSides g → (b : Bool) {D : List ℕ} {w : ℕ → ℕ} (numbered : List ℕ) → length numbered ≡ g.vertices → IsTraversal g (order_of g b) (side_of g b) D [] w (entry numbered) → AreSideNumbers b g numbered
+numbers_end {g} S true numbered size R =
+    let K : IsKept g (side_of g true) (entry numbered) = kept S (ordered_of S true) R in
+    record { size = size; each = x_by_order g S (entry numbered) K.below (λ u v i j h. K.grows u v i j (λ p. h.0 (ap vertex p)) h.1) }
+numbers_end {g} S false numbered size R =
+    let K : IsKept g (side_of g false) (entry numbered) = kept S (ordered_of S false) R in
+    record { size = size; each = y_by_order g S (entry numbered) K.below (λ u v i j h. K.grows u v i j (λ p. h.0 (ap vertex p)) h.1) }
+
 pub going_end : {g : SidesValue} → IsSides g → (b : Bool) {stack : List EdgeId} {waiting numbered : List ℕ} {next : ℕ} → length stack ≡ 0 → IsGoing g b stack waiting numbered next → AreSideNumbers b g numbered
-going_end {g} S true {stack} {waiting} {numbered} {next} q R = record {
-  size = R.numbered_size;
-  each = x_by_order g S (entry numbered) K.below (λ u v i j h. K.grows u v i j (λ p. h.0 (ap vertex p)) h.1);
-}
-  where
-    K : IsKept g (side_of g true) (entry numbered)
-    K = kept S (ordered_of S true) (subst (λ z. IsTraversal g (order_of g true) (side_of g true) R.done (turned z []) (entry waiting) (entry numbered)) (no_items stack q) R.state)
-going_end {g} S false {stack} {waiting} {numbered} {next} q R = record {
-  size = R.numbered_size;
-  each = y_by_order g S (entry numbered) K.below (λ u v i j h. K.grows u v i j (λ p. h.0 (ap vertex p)) h.1);
-}
-  where
-    K : IsKept g (side_of g false) (entry numbered)
-    K = kept S (ordered_of S false) (subst (λ z. IsTraversal g (order_of g false) (side_of g false) R.done (turned z []) (entry waiting) (entry numbered)) (no_items stack q) R.state)
+going_end {g} S b {stack} {waiting} {numbered} {next} q R =
+    numbers_end S b numbered R.numbered_size
+    (subst (λ z. IsTraversal g (order_of g b) (side_of g b) R.done (turned z []) (entry waiting) (entry numbered)) (no_items stack q) R.state)

@@ -13,4 +13,4 @@ mod table;
 mod traversal;
 
 pub use table::Labels;
-pub use traversal::labels;
+pub use traversal::{degrees, labels, put};

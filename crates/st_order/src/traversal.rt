@@ -15,7 +15,10 @@ use st_sides::Sides;
 use std::alloc::Global;
 
 /// How many edges come into each vertex.
-fn degrees(alloc: Global, sides: &Sides) -> Result<IdVec<VertexId, usize>, NoMemory>
+///
+/// Errors: `NoMemory`.
+/// Cost: O(V) time, and memory for a list of vertices. Not proved.
+pub fn degrees(alloc: Global, sides: &Sides) -> Result<IdVec<VertexId, usize>, NoMemory>
     ensures size { IfOk result (λ w. length w ≡ sides.now.vertices) }
     ensures each { IfOk result (λ w. (v : ℕ) → v < sides.now.vertices → slice_index_or w v 0 ≡ length (ins sides.now v)) }
 {
@@ -27,9 +30,12 @@ fn degrees(alloc: Global, sides: &Sides) -> Result<IdVec<VertexId, usize>, NoMem
     Ok(degree)
 }
 
-/// Puts edges on a stack; from the left, the first of them is the first to be taken.
+/// Puts edges on a stack; from the left, the first of them is the first to be taken, else the last.
+///
+/// Errors: `NoMemory`; the stack is as it was then or has some of the edges.
+/// Cost: O(1) time for each edge. Not proved.
 #[inline(always)]
-fn put(stack: &mut Vec<EdgeId>, es: &[EdgeId], from_left: bool) -> Result<(), NoMemory>
+pub fn put(stack: &mut Vec<EdgeId>, es: &[EdgeId], from_left: bool) -> Result<(), NoMemory>
     ensures { OnOk result (stack.new.items ≡ stack.old.items ++ (if from_left then reverse es.now else es.now)) }
 {
     let at = stack.len();
