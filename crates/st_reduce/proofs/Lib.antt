@@ -2,6 +2,7 @@ mod RootLemmas
 mod ArcLemmas
 mod SplitLemmas
 mod DecideLemmas
+mod DummyLemmas
 mod ReducedLemmas
 mod TransitiveLemmas
 mod MarkLemmas
