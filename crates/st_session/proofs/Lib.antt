@@ -1,0 +1,16 @@
+mod NameLemmas
+mod CountedLemmas
+mod RootLemmas
+mod ExchangeLemmas
+mod CommonLemmas
+mod RootCounts
+mod JointLemmas
+mod InsertionLemmas
+mod RemovalLemmas
+mod EndLemmas
+mod KeptLemmas
+mod SessionLemmas
+mod RunLemmas
+mod CornerLemmas
+mod NumberLemmas
+mod ReplyLemmas
