@@ -1,24 +1,27 @@
 -- From a planar st-graph and its reduced graph to the picture and the points.
 --   number_lists        the two numbers of each vertex, as lists that have every number once
---   laid_of, laid_at    the compact points for them
---   room                what a reduced graph needs
+--   laid_of             the compact points for them
 --   few_vertices        how many vertices the reduced graph has
---   dots, drawn, dominance_of, reaching_by   what holds of the points and the picture
-use Rattle.std.proofs.Common.{ℕ, zero, suc, List, ◌≡◌, ◌<◌, ◌≤◌, ◌+◌, ◌*◌, ◌^◌, ◌↔◌, sym, ap, ◌∙◌, subst, arith, length, slice_get, Option}
+--   reduced_sides       the sides of the reduced graph
+--   enough, dots, drawn, dominance_of, reaching_by   what holds of the points and the picture
+use Rattle.std.proofs.Common.{ℕ, zero, suc, List, ◌≡◌, ◌<◌, ◌≤◌, ◌+◌, ◌↔◌, sym, ap, ◌∙◌, subst, arith, ◌∷◌, [], length, length-append, slice_get, Option}
+use Rattle.std.proofs.Math.ListN.{set}
+use Rattle.std.proofs.lemmas.List.{length-set}
 use Rattle.st_ids.specs.declared.ids.VertexId.{VertexId}
 use Rattle.st_ids.specs.declared.limits.TheConstants.{MOST_COORDINATE}
 use Rattle.st_ids.specs.declared.names.Names.{Names}
 use Rattle.st_ids.specs.Graph.{arcs_of}
 use Rattle.st_ids.specs.Walks.{Arcs, Reaches}
 use Rattle.st_ids.proofs.Public.{reach_refl, reach_trans}
-use Rattle.st_map.specs.Embedded.{Embedded, bare, edges}
+use Rattle.st_map.specs.Embedded.{Embedded, bare, edges, faces, head, tail}
+use Rattle.st_map.specs.Split.{split}
 use Rattle.st_test.specs.Planar.{IsPlanarSt}
 use Rattle.st_shape.specs.declared.point.Point.{Point}
 use Rattle.st_shape.specs.Inside.{IsInside}
 use Rattle.st_shape.specs.Rules.{Drawing, IsFrame}
 use Rattle.st_sides.specs.Sides.{SidesValue, edge_count, edge_tail, edge_head, primal, IsSides}
 use Rattle.st_sides.specs.Held.{HasSizes}
-use Rattle.st_sides.specs.SidesOf.{IsSidesOf}
+use Rattle.st_sides.specs.SidesOf.{ExistLaw, IsSidesOf}
 use Rattle.st_sides.proofs.Public.{to_sink, meaning_law}
 use Rattle.st_order.specs.declared.table.Labels.{Labels}
 use Rattle.st_order.specs.Labels.{AreLabels}
@@ -30,20 +33,23 @@ use Rattle.st_picture.specs.Drawn.{IsDrawn}
 use Rattle.st_picture.specs.Items.{grid_point}
 use Rattle.st_picture.specs.Naming.{AreNames}
 use Rattle.st_picture.proofs.Public.{inside, pos_most, sink_in}
+use Rattle.st_reduce.specs.Dummies.{AreDummies, SplitsTo}
 use Rattle.st_reduce.specs.Marks.{dummy_numbers}
 use Rattle.st_reduce.specs.Reduced.{IsReduced, IsTransitiveEdge, ReducedIs, Splits, begin, keep, cut, dummy_at}
 use Rattle.st_reduce.specs.ReducedSides.{IsReducedSides, last_of}
 use Rattle.st_reduce.specs.Transitive.{IsTransitive}
-use Rattle.st_reduce.proofs.Public.{length-dummy_numbers, reduced_sides_law}
+use Rattle.st_reduce.proofs.Public.{length-dummy_numbers, reduced_law, reduced_sides_law}
 use Rattle.draw_dom.specs.Compact.{steps, point_x, point_y}
 use Rattle.draw_dom.specs.Dominance.{CompactDominance, HasNoTransitive}
 use Rattle.draw_dom.specs.Pictures.{IsAtMost, compact_point, points_and_lines}
 use Rattle.draw_dom.specs.Points.{vertex_number, IsNumberList, AreNumberLists, ArePoints, IsPointAtMost, AreCompactPoints, vertex_point}
 use Rattle.draw_dom.specs.Shown.{AreDots, IsDominanceOf, IsCompactLayout}
+use Rattle.draw_dom.specs.Splitting.{IsSplitLayout, IsSplitSides}
 use Rattle.draw_dom.proofs.AlongLemmas.{growth-le, most_pos, point_is}
 use Rattle.draw_dom.proofs.DominanceLemmas.{compact_dominance_law}
 use Rattle.draw_dom.proofs.DotLemmas.{dominance_drawn}
 use Rattle.draw_dom.proofs.PictureLemmas.{one_dots}
+use Rattle.draw_dom.proofs.TrimLemmas.{HasHeldSides, held}
 
 -- ---- the arcs of a graph are those of its sides
 arcs_same : (h : Embedded) (s t outer : ℕ) (r : SidesValue) → IsSidesOf h s t outer r → primal r ≡ arcs_of (bare h)
@@ -89,24 +95,77 @@ laid_of h s t outer g of z l A points P = record {
   are = subst (λ n. ArePoints (point_x (vertex_number l.x) (vertex_number l.y) P.at_x) (point_y (vertex_number l.x) (vertex_number l.y) P.at_y) n points) A.x.size P.are;
 }
 
-pub laid_at : (h : Embedded) (s t outer s' t' outer' : ℕ) (points : List Point) → (s ≡ s') × (t ≡ t') × (outer ≡ outer') → IsCompactLayout h s t outer points → IsCompactLayout h s' t' outer' points
-laid_at h s t outer s' t' outer' points q L = subst (λ z. IsCompactLayout h s' t' z points) q.2 (subst (λ z. IsCompactLayout h s' z outer points) q.1 (subst (λ z. IsCompactLayout h z t outer points) q.0 L))
-
-pub room : (g : Embedded) (s t outer : ℕ) (x : SidesValue) → IsSidesOf g s t outer x → x.vertices + edge_count x ≤ MOST_COORDINATE → g.vertices + 2 * edges g < 2 ^ 30
-room g s t outer x of few = (let a : x.vertices ≡ g.vertices = of.vertices in let b : edge_count x ≡ edges g = edges_same g s t outer x of in omega arith)
-
 -- ---- sizes
 pub few_vertices : (g : Embedded) (k : ℕ) (ds : List (Option ℕ)) (h : Embedded) → Splits g k ds h → h.vertices ≤ g.vertices + k
 few_vertices g zero ds h (begin) = omega arith
 few_vertices g (suc k) ds h (keep {ds = cs} S n) = (let m = few_vertices g k cs h S in omega arith)
 few_vertices g (suc k) ds h (cut {ds = cs} {h = b} S y) = (let m = few_vertices g k cs b S in omega arith)
 
+few_edges : (g : Embedded) (k : ℕ) (ds : List (Option ℕ)) (h : Embedded) → Splits g k ds h → edges h ≤ edges g + k
+few_edges g zero ds h (begin) = omega arith
+few_edges g (suc k) ds h (keep {ds = cs} S n) = (let m = few_edges g k cs h S in omega arith)
+few_edges g (suc k) ds h (cut {ds = cs} {h = b} S y) =
+    let m = few_edges g k cs b S in
+    let a : edges (split b k) ≡ length (set b.ends k (tail b k, b.vertices)) + 1 = length-append (set b.ends k (tail b k, b.vertices)) ((b.vertices, head b k) ∷ []) in
+    let c : length (set b.ends k (tail b k, b.vertices)) ≡ edges b = length-set b.ends k (tail b k, b.vertices) in
+    omega arith
+
+-- ---- the sides of the reduced graph
+-- the reduced graph has sides, which are those of the graph with the split edges
+pub record HasReducedSides (g : Embedded) (s t outer : ℕ) (x : SidesValue) (ds : List (Option ℕ)) (n : ℕ) : Type 0 where
+  pub reduced : Embedded
+  pub is_reduced : IsReduced g ds reduced
+  pub sides : SidesValue
+  pub are_sides : IsSidesOf reduced s t outer sides
+  pub sizes : HasSizes sides
+  pub split : IsSplitSides x ds n sides
+
+pub reduced_sides : ExistLaw → (g : Embedded) (s t outer : ℕ) → IsPlanarSt g s t outer → (x : SidesValue) → IsSidesOf g s t outer x → x.vertices + edge_count x ≤ MOST_COORDINATE
+    → (ds : List (Option ℕ)) (n : ℕ) → AreDummies x ds n → HasReducedSides g s t outer x ds n
+reduced_sides exist g s t outer st x of few ds n D =
+    let S : SplitsTo g (edge_count x) ds n = D g s t outer st of in
+    let red : IsReduced g ds S.graph = subst (λ k. Splits g k ds S.graph) (edges_same g s t outer x of) S.splits in
+    let law : ReducedIs g s t outer ds S.graph = (reduced_law g s t outer st).1 ds S.graph red in
+    let planar : IsPlanarSt S.graph s t outer = law.keeps.planar in
+    let own : HasHeldSides S.graph s t outer = held S.graph s t outer (exist S.graph s t outer planar).0 planar (exist S.graph s t outer planar).1
+    (let a = few_edges g (edges g) ds S.graph red in
+    let b : edge_count x ≡ edges g = edges_same g s t outer x of in
+    let c : S.graph.vertices + faces S.graph ≡ edges S.graph + 2 = planar.euler in
+    let d : 2 ≤ S.graph.vertices = planar.two in
+    omega arith) in
+    record {
+      reduced = S.graph;
+      is_reduced = red;
+      sides = own.sides;
+      are_sides = own.are_sides;
+      sizes = own.sizes;
+      split = record {
+        size = law.size ∙ sym (edges_same g s t outer x of);
+        vertices = own.are_sides.vertices ∙ S.vertices;
+        sides = meaning_law S.graph s t outer own.sides planar own.are_sides;
+        last = last_of g ds;
+        are = reduced_sides_law g S.graph s t outer ds x own.sides st red of own.are_sides;
+      };
+    }
+
 steps-le : (a : ℕ → ℕ) (k : ℕ) → steps a k ≤ k
 steps-le a zero = omega arith
 steps-le a (suc k) = (let h = steps-le a k in let l = growth-le (a k) (a (suc k)) in omega arith)
 
 -- ---- the picture
-module _ (g : Embedded) (s t outer : ℕ) (st : IsPlanarSt g s t outer) (x : SidesValue) (of : IsSidesOf g s t outer x) (S : IsSides x) (ds : List (Option VertexId)) (h : Embedded) (red : IsReduced g (dummy_numbers ds) h) (law : ReducedIs g s t outer (dummy_numbers ds) h) (points : List Point) (L : IsCompactLayout h s t outer points) where
+module _ (g : Embedded) (s t outer : ℕ) (st : IsPlanarSt g s t outer) (x : SidesValue) (of : IsSidesOf g s t outer x) (S : IsSides x) (ds : List (Option VertexId)) (points : List Point) (K : IsSplitLayout g s t outer (dummy_numbers ds) points) where
+  abbrev h : Embedded
+  h = K.reduced
+
+  abbrev L : IsCompactLayout K.reduced s t outer points
+  L = K.layout
+
+  red : IsReduced g (dummy_numbers ds) h
+  red = K.is_reduced
+
+  law : ReducedIs g s t outer (dummy_numbers ds) h
+  law = (reduced_law g s t outer st).1 (dummy_numbers ds) h red
+
   abbrev r : SidesValue
   r = L.sides
 
@@ -140,6 +199,10 @@ module _ (g : Embedded) (s t outer : ℕ) (st : IsPlanarSt g s t outer) (x : Sid
   most : (v : ℕ) → v < r.vertices → (px v ≤ px x.sink) × (py v ≤ py x.sink)
   most v i = C.points.up v x.sink i sink_there (reach_trans (to_sink r R v i) (reach_refl Q.sink))
 
+  -- there is a point for each vertex of the graph
+  pub enough : x.vertices ≤ length points
+  enough = (let n : length points ≡ r.vertices = L.are.size in let m = Q.vertices in omega arith)
+
   pub dots : x.vertices + edge_count x ≤ MOST_COORDINATE → AreDots x ds points
   dots few =
       let n : r.vertices ≤ MOST_COORDINATE =
@@ -154,7 +217,7 @@ module _ (g : Embedded) (s t outer : ℕ) (st : IsPlanarSt g s t outer) (x : Sid
       let lx : L.x x.sink < r.vertices = L.numbers.numberings.x_in x.sink sink_there in
       let ly : L.y x.sink < r.vertices = L.numbers.numberings.y_in x.sink sink_there in
       record {
-        vertices = (let m = Q.vertices in omega arith);
+        vertices = enough;
         size = sym (length-dummy_numbers ds) ∙ law.size ∙ sym (edges_same g s t outer x of);
         dummies_in = λ e w a q. (let m : w < r.vertices = (Q.new_vertex e w a q).1 in omega arith);
         inside = λ v i.

@@ -7,4 +7,6 @@ mod DotLemmas
 mod LaidLemmas
 mod PictureLemmas
 mod ReadLemmas
+mod SplittingLemmas
+mod TrimLemmas
 pub mod Public

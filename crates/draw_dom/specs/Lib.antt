@@ -4,3 +4,4 @@ pub mod Laws
 pub mod Pictures
 pub mod Points
 pub mod Shown
+pub mod Splitting

@@ -39,7 +39,7 @@ fn growing_steps(alloc: Global, along: &[u32]) -> Result<Vec<u32>, AllocError>
     ensures len { IfOk result (λ places. vec_len places ≡ length along.now) }
     ensures items { IfOk result (λ places. (k : ℕ) → k < length along.now → slice_index places.items k ≡ steps (slice_index along.now) k) }
 {
-    let mut places = Vec::new(alloc);
+    let mut places = Vec::with_capacity(alloc, along.len())?;
     let mut place = 0;
     for k in 0..along.len() {
         if k > 0 {
@@ -59,7 +59,8 @@ fn places(alloc: Global, numbers: &[u32], others: &[u32]) -> Result<Vec<u32>, Al
 {
     let along = others_along(alloc, numbers, others)?;
     let steps = growing_steps(alloc, &along)?;
-    let mut found = Vec::new(alloc);
+    drop(along);
+    let mut found = Vec::with_capacity(alloc, numbers.len())?;
     for number in numbers {
         found.push(steps[*number as usize])?;
     }
@@ -78,7 +79,7 @@ fn points(
     let n = xs.len();
     let columns = places(alloc, xs.items(), ys.items())?;
     let rows = places(alloc, ys.items(), xs.items())?;
-    let mut points = Vec::new(alloc);
+    let mut points = Vec::with_capacity(alloc, n as usize)?;
     for v in 0..n as usize {
         points.push(Point {
             x: i64::from(columns[v]),

@@ -1,37 +1,50 @@
 //! Dominance pictures, from a graph to its picture and points.
 ghost use Rattle.std.specs.Prelude.{◌≡◌, ℕ, ◌+◌, ◌<◌, ◌≤◌, ◌^◌, ◌↔◌, length, slice_get, IfOk};
 ghost use Rattle.draw_dom.specs.Points.{IsPointAtMost};
-ghost use Rattle.draw_dom.specs.Shown.{AreDominancePoints, IsDominanceOf, IsCompactLayout};
+ghost use Rattle.draw_dom.specs.Shown.{AreDominancePoints, IsDominanceOf};
+ghost use Rattle.draw_dom.specs.Splitting.{IsSplitLayout};
 ghost use Rattle.st_ids.specs.Graph.{arcs_of};
 ghost use Rattle.st_ids.specs.declared.limits.TheConstants.{MOST_COORDINATE};
 ghost use Rattle.st_ids.specs.Walks.{Reaches};
 ghost use Rattle.st_map.specs.Embedded.{bare};
 ghost use Rattle.st_picture.specs.Drawn.{IsDrawn};
 ghost use Rattle.st_picture.specs.Naming.{AreNames};
+ghost use Rattle.st_reduce.specs.Marks.{dummy_numbers};
 ghost use Rattle.st_sides.specs.Sides.{edge_count};
 ghost use Rattle.st_sides.specs.SidesOf.{IsSidesOf};
 
 use crate::compaction::compact;
 use crate::items::points_and_lines;
+use crate::splitting::split_labels;
 use crate::{shown, table};
 use st_ids::{IdVec, Names, NoMemory, VertexId};
-use st_order::labels;
-use st_reduce::reduce;
+use st_reduce::{Dummies, find_dummies};
 use st_shape::Point;
 use st_sides::{Sides, laws};
 use st_test::StGraph;
 use st_test::laws::planar_st;
 use std::alloc::Global;
 
-/// The compact point of each vertex of the graph, for its two numbers.
-fn laid(alloc: Global, graph: &StGraph) -> Result<table::Compact, NoMemory>
-    ensures { IfOk result (IsCompactLayout graph.now.map.graph graph.now.source graph.now.sink graph.now.outer) }
+/// The dummies of a graph, and the compact point of each vertex of its reduced graph.
+#[derive(Drop)]
+struct Layout {
+    dummies: Dummies,
+    points: table::Compact,
+}
+
+/// The dummies of the graph, and the compact point of each vertex of its reduced graph. The graph is given up first.
+fn laid(alloc: Global, graph: StGraph, sides: &Sides) -> Result<Layout, NoMemory>
+    requires sides { IsSidesOf graph.map.graph graph.source graph.sink graph.outer sides.now }
+    requires few { sides.now.vertices + edge_count sides.now ≤ MOST_COORDINATE }
+    ensures { IfOk result (λ l. IsSplitLayout graph.map.graph graph.source graph.sink graph.outer (dummy_numbers l.dummies.of_edges) l.points) }
 {
-    let sides = Sides::of(alloc, graph)?;
-    laws::local(&sides);
-    sides.facts();
-    let numbers = labels(alloc, &sides)?;
-    compact(alloc, &numbers)
+    planar_st(&graph);
+    laws::value_exists();
+    drop(graph);
+    let dummies = find_dummies(alloc, sides)?;
+    let labels = split_labels(alloc, sides, &dummies)?;
+    let points = compact(alloc, &labels)?;
+    Ok(Layout { dummies, points })
 }
 
 /// The points of the first n vertices.
@@ -45,7 +58,7 @@ fn first_points(
     ensures size { IfOk result (λ first. length first ≡ n) }
     ensures each { IfOk result (λ first. (v : ℕ) → v < n → slice_get first v ≡ slice_get points.now v) }
 {
-    let mut first = IdVec::new(alloc);
+    let mut first = IdVec::with_capacity(alloc, n)?;
     for v in 0..n {
         first.push(points.point(VertexId(v)))?;
     }
@@ -58,7 +71,7 @@ fn first_points(
 ///
 /// Conditions: the sides are those of the graph, and there are at most `MOST_COORDINATE` vertices and edges together.
 /// Errors: `NoMemory`. The graph is given up then.
-/// Cost: O(V + E) time, and memory for the reduced graph, its sides and its points. Not proved.
+/// Cost: O(V + E) time, and memory for the points and numbers of the reduced graph. Not proved.
 pub fn dominance_points(
     alloc: Global,
     graph: StGraph,
@@ -73,10 +86,8 @@ pub fn dominance_points(
 {
     planar_st(&graph);
     laws::local(sides);
-    let reduced = reduce(alloc, graph, sides)?;
-    planar_st(&reduced.graph);
-    let points = laid(alloc, &reduced.graph)?;
-    let points = first_points(alloc, &points, sides.vertices())?;
+    let layout = laid(alloc, graph, sides)?;
+    let points = first_points(alloc, &layout.points, sides.vertices())?;
     Ok(points)
 }
 
@@ -90,7 +101,7 @@ pub fn dominance_points(
 /// Conditions: the sides are those of the graph, the names are for it, and there are at most `MOST_COORDINATE` vertices and
 /// edges together.
 /// Errors: `NoMemory`. The graph is given up then.
-/// Cost: O(V + E) time, and memory for the reduced graph, its sides and its points beside the picture. Not proved.
+/// Cost: O(V + E) time, and memory for the points and numbers of the reduced graph beside the picture. Not proved.
 pub fn dominance(
     alloc: Global,
     graph: StGraph,
@@ -107,10 +118,14 @@ pub fn dominance(
 {
     planar_st(&graph);
     laws::local(sides);
-    let reduced = reduce(alloc, graph, sides)?;
-    planar_st(&reduced.graph);
-    let points = laid(alloc, &reduced.graph)?;
-    let picture = points_and_lines(alloc, sides, &points, &reduced.dummy, names)?;
-    let points = first_points(alloc, &points, sides.vertices())?;
+    let layout = laid(alloc, graph, sides)?;
+    let picture = points_and_lines(
+        alloc,
+        sides,
+        &layout.points,
+        &layout.dummies.of_edges,
+        names,
+    )?;
+    let points = first_points(alloc, &layout.points, sides.vertices())?;
     Ok(shown::Dominance { picture, points })
 }
