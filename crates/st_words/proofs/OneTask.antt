@@ -9,7 +9,7 @@ use Rattle.st_words.specs.declared.words.Recipe.{Recipe}
 use Rattle.st_words.specs.declared.words.Spot.{Spot}
 use Rattle.st_words.specs.declared.words.Spot.TheVariants.{Left, Middle, Right}
 use Rattle.st_words.specs.declared.words.Task.{Task}
-use Rattle.st_words.specs.declared.words.Task.TheVariants.{File, Check, Orient, Gen, Bench}
+use Rattle.st_words.specs.declared.words.Task.TheVariants.{File, Check, Orient, Session, Gen, Bench}
 use Rattle.st_words.specs.Words.{IsName, ArePairNames, form_words, AreForm, IsRecipe, IsTask, HasOneTask}
 
 pair_same : (p q : ℤ × ℤ) → p.0 ≡ q.0 → p.1 ≡ q.1 → p ≡ q
@@ -131,6 +131,7 @@ data Verb : Type 0 where
   meet : Verb
   check : Verb
   orient : Verb
+  session : Verb
   gen : Verb
   bench : Verb
 
@@ -142,6 +143,7 @@ Held join = ℤ × ℤ
 Held meet = ℤ × ℤ
 Held check = Unit {0}
 Held orient = ℤ × ℤ
+Held session = Unit {0}
 Held gen = Recipe
 Held bench = Recipe × DrawForm
 
@@ -154,6 +156,7 @@ task join p = File (Lattice Join p.0 p.1)
 task meet p = File (Lattice Meet p.0 p.1)
 task check h = Check
 task orient p = Orient p.0 p.1
+task session h = Session
 task gen r = Gen r
 task bench h = Bench h.0 h.1
 
@@ -165,6 +168,7 @@ verb (File (Lattice Join from to)) = join
 verb (File (Lattice Meet from to)) = meet
 verb Check = check
 verb (Orient from to) = orient
+verb Session = session
 verb (Gen r) = gen
 verb (Bench r form) = bench
 
@@ -177,6 +181,7 @@ held (File (Lattice Join from to)) = (from, to)
 held (File (Lattice Meet from to)) = (from, to)
 held Check = tt
 held (Orient from to) = (from, to)
+held Session = tt
 held (Gen r) = r
 held (Bench r form) = (r, form)
 
@@ -189,6 +194,7 @@ whole (File (Lattice Join from to)) = refl
 whole (File (Lattice Meet from to)) = refl
 whole Check = refl
 whole (Orient from to) = refl
+whole Session = refl
 whole (Gen r) = refl
 whole (Bench r form) = refl
 
@@ -201,6 +207,7 @@ letter join = 106
 letter meet = 109
 letter check = 99
 letter orient = 111
+letter session = 115
 letter gen = 103
 letter bench = 98
 
@@ -211,7 +218,7 @@ choose false v w = w
 verb_by : ℕ → Verb
 verb_by l =
     choose (nat_eq l 116) test (choose (nat_eq l 100) draw (choose (nat_eq l 113) query (choose (nat_eq l 106) join
-    (choose (nat_eq l 109) meet (choose (nat_eq l 99) check (choose (nat_eq l 103) gen (choose (nat_eq l 111) orient bench)))))))
+    (choose (nat_eq l 109) meet (choose (nat_eq l 99) check (choose (nat_eq l 103) gen (choose (nat_eq l 111) orient (choose (nat_eq l 115) session bench))))))))
 
 by_letter : (v : Verb) → verb_by (letter v) ≡ v
 unfolding letter choose verb_by
@@ -222,6 +229,7 @@ by_letter join = refl
 by_letter meet = refl
 by_letter check = refl
 by_letter orient = refl
+by_letter session = refl
 by_letter gen = refl
 by_letter bench = refl
 
@@ -239,6 +247,7 @@ said (name ∷ words) (File (Lattice Meet from to)) h = of_word name (codes "mee
 said words Check h = ap (λ (z : List (List ℕ)). get_or (get_or z 0 []) 0 0) h
 said [] (Orient from to) h = absurd h
 said (name ∷ words) (Orient from to) h = of_word name (codes "orient") h.0
+said words Session h = ap (λ (z : List (List ℕ)). get_or (get_or z 0 []) 0 0) h
 said words (Gen r) h = of_word (get_or words 0 []) (codes "gen") h.1
 said words (Bench r form) h = of_word (get_or words 0 []) (codes "bench") h.0
 
@@ -257,6 +266,7 @@ one_held (name ∷ words) meet a b h k = ap (λ (z : ℤ × ℤ). File (Lattice 
 one_held words check a b h k = refl
 one_held [] orient a b h k = absurd h
 one_held (name ∷ words) orient a b h k = ap (λ (z : ℤ × ℤ). Orient z.0 z.1) (same_two words (a.0, a.1) (b.0, b.1) h.1 k.1)
+one_held words session a b h k = refl
 one_held words gen a b h k = ap (λ z. Gen z) (same_recipe (get_or words 1 []) (get_or words 2 []) a b h.2 k.2)
 one_held words bench a b h k =
     ap (λ z. Bench z a.1) (same_recipe (get_or words 1 []) (get_or words 2 []) a.0 b.0 h.1 k.1) ∙ ap (λ z. Bench b.0 z) (same_form (drop 3 words) a.1 b.1 h.2 k.2)

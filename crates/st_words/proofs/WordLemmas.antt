@@ -8,7 +8,7 @@ use Rattle.st_words.specs.declared.words.Operation.{Operation}
 use Rattle.st_words.specs.declared.words.Operation.TheVariants.{Join, Meet}
 use Rattle.st_words.specs.declared.words.Recipe.{Recipe}
 use Rattle.st_words.specs.declared.words.Task.{Task}
-use Rattle.st_words.specs.declared.words.Task.TheVariants.{File, Check, Orient, Gen, Bench}
+use Rattle.st_words.specs.declared.words.Task.TheVariants.{File, Check, Orient, Session, Gen, Bench}
 use Rattle.st_words.specs.Words.{IsName, ArePairNames, operation_word, IsRecipe, AreRecipe, IsCommand, IsTask, IsFileless}
 
 -- the first i pairs of words write the names of the pairs
@@ -115,6 +115,7 @@ pub no_recipe : (words : List (List ℕ)) → ((r : Recipe) → AreRecipe words 
 no_recipe words none (File command) l h = l
 no_recipe words none Check l h = l
 no_recipe words none (Orient from to) l h = l
+no_recipe words none Session l h = l
 no_recipe words none (Gen r) l h = none r h.2
 no_recipe words none (Bench r form) l h = none r h.1
 
@@ -130,13 +131,14 @@ module _ {X : Type 0} (f : X → List ℕ) (words : List X) (a b : X) (there : 3
       subst (λ z. IsRecipe z (f b) r) (sym (image_at f words 1 a [] (omega arith) first))
       (subst (λ z. IsRecipe (get_or (map f words) 1 []) z r) (sym (image_at f words 2 b [] (omega arith) second)) h)
 
--- words that ask neither for a generated graph, nor for a check, nor for a command on a file ask for nothing
-pub no_task : (words : List (List ℕ)) → ((task : Task) → IsFileless task → IsTask words task → ⊥) → (IsTask words Check → ⊥) → ((from to : ℤ) → IsTask words (Orient from to) → ⊥) → ((command : Command) → IsCommand words command → ⊥) → (task : Task) → IsTask words task → ⊥
-no_task words a b o d (File command) h = d command h
-no_task words a b o d Check h = b h
-no_task words a b o d (Orient from to) h = o from to h
-no_task words a b o d (Gen r) h = a (Gen r) tt h
-no_task words a b o d (Bench r form) h = a (Bench r form) tt h
+-- words that ask neither for a generated graph, nor for a check, a session or an orientation, nor for a command on a file ask for nothing
+pub no_task : (words : List (List ℕ)) → ((task : Task) → IsFileless task → IsTask words task → ⊥) → (IsTask words Check → ⊥) → (IsTask words Session → ⊥) → ((from to : ℤ) → IsTask words (Orient from to) → ⊥) → ((command : Command) → IsCommand words command → ⊥) → (task : Task) → IsTask words task → ⊥
+no_task words a b s o d (File command) h = d command h
+no_task words a b s o d Check h = b h
+no_task words a b s o d (Orient from to) h = o from to h
+no_task words a b s o d Session h = s h
+no_task words a b s o d (Gen r) h = a (Gen r) tt h
+no_task words a b s o d (Bench r form) h = a (Bench r form) tt h
 
 -- the words behind the first three, as code has them
 pub behind_three : {X : Type 0} (f : X → List ℕ) (words : List X) → map f (take (length words - 3) (drop 3 words)) ≡ drop 3 (map f words)

@@ -6,7 +6,7 @@
 --   IsNumber word n        the word writes the number n, in digits alone
 --   IsRecipe a b r         two words write which graph is generated
 --   AskOrient words s t    the words ask for an orientation with the poles of these names
---   IsTask words t         the words ask for the task: a command on a file, a check, an orientation, or something about a generated graph
+--   IsTask words t         the words ask for the task: a command on a file, a check, an orientation, a session, or something about a generated graph
 use Rattle.st_ids.specs.declared.limits.TheConstants.{MOST_PAIRS, MOST_VERTICES}
 use Rattle.std.specs.Prelude.{◌≡◌, ℕ, ◌+◌, ◌*◌, ◌^◌, ◌<◌, ◌≤◌, ℤ, pos, FitsSigned, List, [], ◌∷◌, length, drop, slice_index_or, codes}
 use Rattle.std.specs.Int.{w64}
@@ -21,7 +21,7 @@ use Rattle.st_words.specs.declared.words.Recipe.{Recipe}
 use Rattle.st_words.specs.declared.words.Spot.{Spot}
 use Rattle.st_words.specs.declared.words.Spot.TheVariants.{Left, Middle, Right}
 use Rattle.st_words.specs.declared.words.Task.{Task}
-use Rattle.st_words.specs.declared.words.Task.TheVariants.{File, Check, Orient, Gen, Bench}
+use Rattle.st_words.specs.declared.words.Task.TheVariants.{File, Check, Orient, Session, Gen, Bench}
 
 -- an optional sign and at least one digit, of a number in signed 64 bits
 pub record IsName (word : List ℕ) (n : ℤ) : Type 0 where
@@ -112,6 +112,7 @@ abbrev pub IsTask : List (List ℕ) → Task → Type 0
 IsTask words (File command) = IsCommand words command
 IsTask words Check = words ≡ codes "check" ∷ []
 IsTask words (Orient from to) = AskOrient words from to
+IsTask words Session = words ≡ codes "session" ∷ []
 IsTask words (Gen r) = (length words ≡ 3) × (slice_index_or words 0 [] ≡ codes "gen") × AreRecipe words r
 IsTask words (Bench r form) = (slice_index_or words 0 [] ≡ codes "bench") × AreRecipe words r × AreForm (drop 3 words) form
 
@@ -124,5 +125,6 @@ abbrev pub IsFileless : Task → Type 0
 IsFileless (File command) = ⊥
 IsFileless Check = ⊥
 IsFileless (Orient from to) = ⊥
+IsFileless Session = ⊥
 IsFileless (Gen r) = Unit {0}
 IsFileless (Bench r form) = Unit {0}

@@ -2,7 +2,7 @@
 ghost use Rattle.std.specs.Prelude.{◌≡◌, ◌≢◌, ℕ, ℤ, ◌+◌, ◌<◌, ◌≤◌, ◌^◌, ◌∷◌, ◌++◌, [], List, length, map, IfOk, OnOk, OnErr, IfSome, IfNone, IsTrue, ◌↔◌, MatchOption, Ok};
 ghost use Rattle.std.specs.String.{string_bytes};
 ghost use Rattle.st_words.specs.declared.words.Command.TheVariants.{Query};
-ghost use Rattle.st_words.specs.declared.words.Task.TheVariants.{Check, Orient};
+ghost use Rattle.st_words.specs.declared.words.Task.TheVariants.{Check, Orient, Session};
 ghost use Rattle.st_words.specs.Words.{IsName, IsNumber, ArePairNames, AreForm, AreArguments, IsRecipe, IsCommand, IsTask, IsFileless, AskOrient, operation_word, spot_word, form_words};
 
 use st_ids::NoMemory;
@@ -115,6 +115,8 @@ pub enum Task {
     Check,
     /// An orientation of the graph of a file, with the source and the sink of these names.
     Orient(i64, i64),
+    /// The edits and questions of a file, carried out on its graph.
+    Session,
     /// The file of a generated graph.
     Gen(Recipe),
     /// The numbers of a drawing of a generated graph.
@@ -304,6 +306,16 @@ fn asks_for_check(words: &[String]) -> bool
     }
 }
 
+// Whether the words ask for a session.
+fn asks_for_session(words: &[String]) -> bool
+    ensures { IsTrue result ↔ IsTask (map string_bytes words.now) Session }
+{
+    match words {
+        [word] => word.as_str() == "session",
+        _ => false,
+    }
+}
+
 // The poles of an orientation that a word and the words behind it ask for.
 fn poles_by_name(name: &String, rest: &[String]) -> Option<(i64, i64)>
     ensures { MatchOption result ((from to : ℤ) → ¬ AskOrient (string_bytes name.now ∷ map string_bytes rest.now) from to) (λ poles. AskOrient (string_bytes name.now ∷ map string_bytes rest.now) poles.0 poles.1) }
@@ -385,6 +397,9 @@ pub fn task_of(alloc: Global, words: &[String]) -> Result<Option<Task>, NoMemory
 {
     if asks_for_check(words) {
         return Ok(Some(Task::Check));
+    }
+    if asks_for_session(words) {
+        return Ok(Some(Task::Session));
     }
     if let Some((from, to)) = poles_of(words) {
         return Ok(Some(Task::Orient(from, to)));
