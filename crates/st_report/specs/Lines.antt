@@ -5,7 +5,7 @@
 --   spaced, names_line    a space and the name, for each of the names; these and the end of the line
 use Rattle.std.specs.Prelude.{ℕ, ℤ, pos, Bool, true, false, List, [], ◌∷◌, codes, ◌++◌}
 use Rattle.std.specs.Fmt.{signed_decimal}
-use Rattle.st_ids.specs.declared.limits.TheConstants.{MOST_BYTES, MOST_VERTICES, MOST_EDGES}
+use Rattle.st_ids.specs.declared.limits.TheConstants.{MOST_BYTES, MOST_VERTICES, MOST_EDGES, MOST_RECORDS}
 use Rattle.gml_core.specs.declared.fault.GmlFault.{GmlFault}
 use Rattle.gml_core.specs.declared.fault.GmlFault.TheVariants as gml
 use Rattle.st_input.specs.declared.fault.ShapeFault.{ShapeFault}
@@ -21,8 +21,10 @@ use Rattle.st_report.specs.declared.stop.BadPath.{BadPath}
 use Rattle.st_report.specs.declared.stop.BadPath.TheVariants as bad_path
 use Rattle.st_report.specs.declared.stop.NoOrientation.{NoOrientation as Unoriented}
 use Rattle.st_report.specs.declared.stop.NoOrientation.TheVariants as orientation
+use Rattle.st_report.specs.declared.stop.BadEdit.{BadEdit}
+use Rattle.st_report.specs.declared.stop.BadEdit.TheVariants as edit
 use Rattle.st_report.specs.declared.stop.Refusal.{Refusal}
-use Rattle.st_report.specs.declared.stop.Refusal.TheVariants.{Words, TooManyBytes, Gml, Shape, NotSt, Path, UnknownVertex, TooLongDrawing, Eps, NotClean, NoOrientation}
+use Rattle.st_report.specs.declared.stop.Refusal.TheVariants.{Words, TooManyBytes, Gml, Shape, NotSt, Path, UnknownVertex, TooLongDrawing, Eps, NotClean, NoOrientation, BadRecord, TooManyRecords, Edit}
 use Rattle.st_report.specs.declared.stop.Stop.{Stop}
 use Rattle.st_report.specs.declared.stop.Stop.TheVariants as stop
 
@@ -61,6 +63,9 @@ status_of TooLongDrawing = status.Limit
 status_of (Eps line) = status.Eps
 status_of (NotClean fault) = status.NotClean
 status_of (NoOrientation why) = status.NoOrientation
+status_of (BadRecord at) = status.Gml
+status_of (TooManyRecords n) = status.Limit
+status_of (Edit number fault) = status.Edit
 
 abbrev pub stop_status : Stop → Status
 stop_status (stop.Refused refusal) = status_of refusal
@@ -161,6 +166,24 @@ orientation_line (orientation.Loop edge) = numbered (codes "no orientation: edge
 orientation_line (orientation.Apart vertex) = numbered (codes "no orientation: vertex ") vertex (codes " is apart\n")
 orientation_line (orientation.Cut cut apart) = numbered (codes "no orientation: vertex ") cut (codes " cuts off vertex ") ++ numbered [] apart (codes "\n")
 
+-- why an edit is refused: of a cycle the head comes before the tail
+abbrev pub bad_edit_line : BadEdit → List ℕ
+bad_edit_line (edit.UsedVertex name) = numbered (codes "vertex name ") name (codes " is used\n")
+bad_edit_line (edit.UsedEdge name) = numbered (codes "edge name ") name (codes " is used\n")
+bad_edit_line (edit.UnknownVertex name) = numbered (codes "unknown vertex ") name (codes "\n")
+bad_edit_line (edit.UnknownEdge name) = numbered (codes "unknown edge ") name (codes "\n")
+bad_edit_line edit.Loop = codes "tail and head are one vertex\n"
+bad_edit_line (edit.NotAt edge vertex) = numbered (codes "edge ") edge (codes " is not at vertex ") ++ numbered [] vertex (codes "\n")
+bad_edit_line edit.OuterCorner = codes "corner in the outer face\n"
+bad_edit_line (edit.Cycle tail head) = numbered (codes "vertex ") head (codes " reaches vertex ") ++ numbered [] tail (codes "\n")
+bad_edit_line edit.OtherFace = codes "corners in two faces\n"
+bad_edit_line (edit.Source vertex) = numbered (codes "leaves a source at vertex ") vertex (codes "\n")
+bad_edit_line (edit.Sink vertex) = numbered (codes "leaves a sink at vertex ") vertex (codes "\n")
+
+-- the number of the refused record, and why
+abbrev pub edit_line : ℕ → BadEdit → List ℕ
+edit_line number fault = numbered (codes "record ") (pos number) (codes ": ") ++ bad_edit_line fault
+
 -- a file with more bytes than a limit
 abbrev pub too_long_line : ℕ → List ℕ
 too_long_line most = numbered (codes "limit: more than ") (pos most) (codes " bytes\n")
@@ -177,6 +200,9 @@ line_of TooLongDrawing = too_long_line MOST_DRAWING_BYTES
 line_of (Eps line) = placed (codes "eps: bad line ") line
 line_of (NotClean fault) = fault_line fault
 line_of (NoOrientation why) = orientation_line why
+line_of (BadRecord at) = placed (codes "gml: bad record at ") at
+line_of (TooManyRecords n) = limit_line n (codes " records, at most ") MOST_RECORDS
+line_of (Edit number fault) = edit_line number fault
 
 abbrev pub stop_line : Stop → List ℕ
 stop_line (stop.Refused refusal) = line_of refusal

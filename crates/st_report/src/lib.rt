@@ -7,5 +7,5 @@
 mod stop;
 mod telling;
 
-pub use stop::{BadPath, NameList, NoOrientation, NotSt, Refusal, Status, Stop};
+pub use stop::{BadEdit, BadPath, NameList, NoOrientation, NotSt, Refusal, Status, Stop};
 pub use telling::report;

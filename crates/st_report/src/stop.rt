@@ -18,9 +18,9 @@ pub enum Status {
     NotSt,
     /// The words are no form of a command.
     Words,
-    /// The file is no GML text, or its tree is no graph.
+    /// The file is no GML text, or its tree is no graph, or one of its records is bad.
     Gml,
-    /// The file has too many bytes, or the graph too many vertices or edges.
+    /// The file has too many bytes or records, or the graph too many vertices or edges.
     Limit,
     /// A read failed.
     ReadFault,
@@ -30,7 +30,7 @@ pub enum Status {
     NoMemory,
     /// The paths of the file are not valid.
     Path,
-    /// A name in the words is the name of no vertex.
+    /// A name in the words, or in a question of the file, is the name of no vertex.
     UnknownVertex,
     /// A drawing is not clean.
     NotClean,
@@ -179,6 +179,33 @@ pub enum NoOrientation {
     Cut { cut: i64, apart: i64 },
 }
 
+/// Why an edit is refused: the first of its faults, in names of vertices and edges.
+#[derive(Clone, Copy, Debug, PartialEq, Eq)]
+pub enum BadEdit {
+    /// A vertex has the new vertex's name.
+    UsedVertex { name: i64 },
+    /// An edge has the new edge's name.
+    UsedEdge { name: i64 },
+    /// No vertex has the name.
+    UnknownVertex { name: i64 },
+    /// No edge has the name.
+    UnknownEdge { name: i64 },
+    /// The tail of the new edge is its head.
+    Loop,
+    /// The edge has no end at the vertex.
+    NotAt { edge: i64, vertex: i64 },
+    /// An end of the new edge would be in the outer face.
+    OuterCorner,
+    /// The head of the new edge reaches its tail.
+    Cycle { tail: i64, head: i64 },
+    /// The ends of the new edge would be in two faces.
+    OtherFace,
+    /// The vertex would have no edge in.
+    Source { vertex: i64 },
+    /// The vertex would have no edge out.
+    Sink { vertex: i64 },
+}
+
 /// What words and bytes answer in place of an output.
 #[derive(Debug, Drop)]
 pub enum Refusal {
@@ -188,13 +215,13 @@ pub enum Refusal {
     TooManyBytes,
     /// The bytes are no GML text.
     Gml(GmlFault),
-    /// The tree of the file is no graph, or one with too many vertices or edges.
+    /// The tree of the file is no graph, or one with too many vertices or edges; or an edit makes it such a one.
     Shape(ShapeFault),
     /// The graph is no planar st-graph.
     NotSt(NotSt),
     /// The paths of the file can't be drawn in one column each.
     Path(BadPath),
-    /// The first name in the words that is the name of no vertex.
+    /// The first name in the words, or in the first question without an answer, that is the name of no vertex.
     UnknownVertex(i64),
     /// The file to check has more bytes than the limit of drawings.
     TooLongDrawing,
@@ -204,6 +231,12 @@ pub enum Refusal {
     NotClean(Fault),
     /// The graph has no orientation with these poles.
     NoOrientation(NoOrientation),
+    /// The first record that hasn't the shape of its key, by the byte at which the key begins.
+    BadRecord(u32),
+    /// The file has so many records, more than the limit.
+    TooManyRecords(usize),
+    /// The first record that is refused, by its number from 0, is an edit.
+    Edit { number: u32, fault: BadEdit },
 }
 
 impl Refusal {
@@ -225,6 +258,9 @@ impl Refusal {
             Refusal::Eps(_) => Status::Eps,
             Refusal::NotClean(_) => Status::NotClean,
             Refusal::NoOrientation(_) => Status::NoOrientation,
+            Refusal::BadRecord(_) => Status::Gml,
+            Refusal::TooManyRecords(_) => Status::Limit,
+            Refusal::Edit { .. } => Status::Edit,
         }
     }
 }

@@ -5,13 +5,13 @@
 ghost use Rattle.std.specs.Prelude.{◌≡◌, ◌++◌, OnOk, IsTrue};
 ghost use Rattle.st_port.specs.Faults.{GoesOn};
 ghost use Rattle.st_port.specs.Writes.{Writes};
-ghost use Rattle.st_report.specs.Lines.{gml_line, shape_line, names_line, several_line, limit_line, faces_line, cycle_line, not_st_line, path_line, fault_line, orientation_line, too_long_line, line_of, stop_line, stop_status};
+ghost use Rattle.st_report.specs.Lines.{gml_line, shape_line, names_line, several_line, limit_line, faces_line, cycle_line, not_st_line, path_line, fault_line, orientation_line, too_long_line, bad_edit_line, edit_line, line_of, stop_line, stop_status};
 ghost use Rattle.st_report.specs.Telling.{Tells};
 
-use crate::stop::{BadPath, NoOrientation, NotSt, Refusal, Status, Stop};
+use crate::stop::{BadEdit, BadPath, NoOrientation, NotSt, Refusal, Status, Stop};
 use gml_core::GmlFault;
 use itoa::{Buffer, Integer};
-use st_ids::limits::{MOST_BYTES, MOST_DRAWING_BYTES, MOST_EDGES, MOST_VERTICES};
+use st_ids::limits::{MOST_BYTES, MOST_DRAWING_BYTES, MOST_EDGES, MOST_RECORDS, MOST_VERTICES};
 use st_input::ShapeFault;
 use st_port::{Failed, Sink, write_all};
 use st_shape::Fault;
@@ -288,6 +288,39 @@ fn write_too_long<D: Sink>(diag: &mut D, most: usize) -> Result<(), Failed>
     write_number(diag, b"limit: more than ", most, b" bytes\n")
 }
 
+// Writes why an edit is refused, and the end of the line.
+fn write_bad_edit<D: Sink>(diag: &mut D, fault: BadEdit) -> Result<(), Failed>
+    ensures { Writes (D.state diag.old) (D.state diag.new) result (bad_edit_line fault) }
+{
+    match fault {
+        BadEdit::UsedVertex { name } => write_number(diag, b"vertex name ", name, b" is used\n"),
+        BadEdit::UsedEdge { name } => write_number(diag, b"edge name ", name, b" is used\n"),
+        BadEdit::UnknownVertex { name } => write_number(diag, b"unknown vertex ", name, b"\n"),
+        BadEdit::UnknownEdge { name } => write_number(diag, b"unknown edge ", name, b"\n"),
+        BadEdit::Loop => write_all(diag, b"tail and head are one vertex\n"),
+        BadEdit::NotAt { edge, vertex } => {
+            write_numbers(diag, b"edge ", edge, b" is not at vertex ", vertex, b"\n")
+        }
+        BadEdit::OuterCorner => write_all(diag, b"corner in the outer face\n"),
+        BadEdit::Cycle { tail, head } => {
+            write_numbers(diag, b"vertex ", head, b" reaches vertex ", tail, b"\n")
+        }
+        BadEdit::OtherFace => write_all(diag, b"corners in two faces\n"),
+        BadEdit::Source { vertex } => {
+            write_number(diag, b"leaves a source at vertex ", vertex, b"\n")
+        }
+        BadEdit::Sink { vertex } => write_number(diag, b"leaves a sink at vertex ", vertex, b"\n"),
+    }
+}
+
+// Writes the line of a refused edit: the number of its record, and why.
+fn write_edit<D: Sink>(diag: &mut D, number: u32, fault: BadEdit) -> Result<(), Failed>
+    ensures { Writes (D.state diag.old) (D.state diag.new) result (edit_line number fault) }
+{
+    write_number(diag, b"record ", number, b": ")?;
+    write_bad_edit(diag, fault)
+}
+
 // Writes the line of a refusal.
 fn write_refusal<D: Sink>(diag: &mut D, refusal: &Refusal) -> Result<(), Failed>
     ensures { Writes (D.state diag.old) (D.state diag.new) result (line_of refusal.now) }
@@ -304,6 +337,16 @@ fn write_refusal<D: Sink>(diag: &mut D, refusal: &Refusal) -> Result<(), Failed>
         Refusal::Eps(line) => write_number(diag, b"eps: bad line ", *line, b"\n"),
         Refusal::NotClean(fault) => write_fault(diag, *fault),
         Refusal::NoOrientation(why) => write_orientation(diag, *why),
+        Refusal::BadRecord(at) => write_number(diag, b"gml: bad record at ", *at, b"\n"),
+        Refusal::TooManyRecords(n) => write_numbers(
+            diag,
+            b"limit: ",
+            *n,
+            b" records, at most ",
+            MOST_RECORDS,
+            b"\n",
+        ),
+        Refusal::Edit { number, fault } => write_edit(diag, *number, *fault),
     }
 }
 
