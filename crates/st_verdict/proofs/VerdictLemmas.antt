@@ -66,6 +66,11 @@ pub gives_of : {A : Type 0} (stage : Result A Refusal → Type 0) (result : Resu
 gives_of stage (Ok x) ok err = ok
 gives_of stage (Err stop) ok err = err
 
+-- what follows of each value that is found
+pub if_ok : {A E : Type 0} {P Q : A → Type 0} (r : Result A E) → IfOk r P → ((a : A) → P a → Q a) → IfOk r Q
+if_ok (Ok a) h f = f a h
+if_ok (Err e) h f = tt
+
 -- ---- what is accepted
 mixed : (x : StValue) (r : Refusal) → (let a : Result StValue Refusal = Ok x in a) ≡ Err r → ⊥
 mixed x r h = cc
