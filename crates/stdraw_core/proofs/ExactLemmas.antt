@@ -4,11 +4,12 @@ use Rattle.std.specs.Prelude.{Result, Ok, Err, IfSome}
 use Rattle.st_port.specs.Streams.{SourceState, SinkState}
 use Rattle.st_report.specs.declared.stop.Refusal.{Refusal}
 use Rattle.st_report.specs.declared.stop.Status.{Status}
-use Rattle.st_words.specs.declared.words.Task.TheVariants.{File, Check, Orient, Gen, Bench}
+use Rattle.st_words.specs.declared.words.Task.TheVariants.{File, Check, Orient, Session, Gen, Bench}
 use Rattle.st_verdict.specs.Stages.{refuses, goes_on}
 use Rattle.stdraw_core.specs.Answer.{AnswersFile, HaveOneAnswer, IsAnswer}
 use Rattle.stdraw_core.specs.Checked.{AnswersCheck}
 use Rattle.stdraw_core.specs.Oriented.{AnswersOrient}
+use Rattle.stdraw_core.specs.Session.{AnswersSession}
 use Rattle.stdraw_core.specs.Exact.{AreTold, EndsWith, EndsAlike, Exact}
 use Rattle.stdraw_core.specs.Run.{EndsBy, is_done, is_refused, is_unread, is_cut, no_memory}
 use Rattle.stdraw_core.proofs.HeadlineLemmas.{same_bytes}
@@ -22,6 +23,8 @@ moved words src bytes told are is answer (goes_on Check asked h) =
     goes_on Check asked (subst (λ z. AnswersCheck z answer) (sym (same_bytes src.left bytes told (are Check asked (λ off. off)) is)) h)
 moved words src bytes told are is answer (goes_on (Orient from to) asked h) =
     goes_on (Orient from to) asked (subst (λ z. AnswersOrient from to z answer) (sym (same_bytes src.left bytes told (are (Orient from to) asked (λ off. off)) is)) h)
+moved words src bytes told are is answer (goes_on Session asked h) =
+    goes_on Session asked (subst (λ z. AnswersSession z answer) (sym (same_bytes src.left bytes told (are Session asked (λ off. off)) is)) h)
 moved words src bytes told are is answer (goes_on (Gen r) asked h) = goes_on (Gen r) asked h
 moved words src bytes told are is answer (goes_on (Bench r form) asked h) = goes_on (Bench r form) asked h
 

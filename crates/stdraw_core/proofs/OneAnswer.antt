@@ -15,7 +15,7 @@ use Rattle.st_report.specs.declared.stop.Refusal.TheVariants.{UnknownVertex}
 use Rattle.st_verdict.specs.Stages.{IsOne}
 use Rattle.st_words.specs.declared.words.Recipe.{Recipe}
 use Rattle.st_words.specs.declared.words.Task.{Task}
-use Rattle.st_words.specs.declared.words.Task.TheVariants.{File, Check, Orient, Gen, Bench}
+use Rattle.st_words.specs.declared.words.Task.TheVariants.{File, Check, Orient, Session, Gen, Bench}
 use Rattle.st_words.proofs.Public.{one_task_law}
 use Rattle.stdraw_core.specs.Query.{names_of, IsFirstUnknown, IsLine, line_of_pair, AreQueryLines, no_line, one_line, AreAnswers}
 use Rattle.st_verdict.specs.Verdict.{IsAccepted, IsFound}
@@ -27,6 +27,7 @@ use Rattle.st_report.specs.declared.stop.Refusal.{Refusal}
 use Rattle.st_test.specs.Planar.{AcyclicIsLoopless}
 use Rattle.st_words.specs.Words.{IsTask}
 use Rattle.stdraw_core.proofs.OrientOne.{FaultForbids, alike_then, orient_alike}
+use Rattle.stdraw_core.proofs.SessionOne.{SessionFacts, session_one}
 use Rattle.stdraw_core.proofs.QueryLemmas.{known_unknown, same_unknown}
 use Rattle.st_ids.specs.declared.names.Names.{Names}
 use Rattle.st_shape.specs.declared.point.Point.{Point}
@@ -164,13 +165,14 @@ module _ (answer_same : OnePolesAnswer) where
   bench_one r form (Err s) y h k = absurd h
 
   -- the answers to a task are one, but for orientations
-  task_alike : FaultForbids → AcyclicIsLoopless → (words : List (List ℕ)) (bytes : List ℕ) (task : Task) → IsTask words task → (x y : Result (List ℕ) Refusal) → AnswersTask task bytes x → AnswersTask task bytes y → AreAlike words x y
-  task_alike forbids loopless words bytes (File c) asked x y h k = inl (file_answers_one c bytes x y h k)
-  task_alike forbids loopless words bytes Check asked x y h k = inl (check_one bytes x y h k)
-  task_alike forbids loopless words bytes (Orient from to) asked x y h k = elim (orient_alike forbids loopless from to bytes x y h k) [ inl e ↦ inl e | inr o ↦ inr ((from, to, asked), o) ]
-  task_alike forbids loopless words bytes (Gen r) asked x y h k = inl (gen_one r x y h k)
-  task_alike forbids loopless words bytes (Bench r form) asked x y h k = inl (bench_one r form x y h k)
+  task_alike : FaultForbids → AcyclicIsLoopless → SessionFacts → (words : List (List ℕ)) (bytes : List ℕ) (task : Task) → IsTask words task → (x y : Result (List ℕ) Refusal) → AnswersTask task bytes x → AnswersTask task bytes y → AreAlike words x y
+  task_alike forbids loopless facts words bytes (File c) asked x y h k = inl (file_answers_one c bytes x y h k)
+  task_alike forbids loopless facts words bytes Check asked x y h k = inl (check_one bytes x y h k)
+  task_alike forbids loopless facts words bytes (Orient from to) asked x y h k = elim (orient_alike forbids loopless from to bytes x y h k) [ inl e ↦ inl e | inr o ↦ inr ((from, to, asked), o) ]
+  task_alike forbids loopless facts words bytes Session asked x y h k = inl (session_one facts bytes x y h k)
+  task_alike forbids loopless facts words bytes (Gen r) asked x y h k = inl (gen_one r x y h k)
+  task_alike forbids loopless facts words bytes (Bench r form) asked x y h k = inl (bench_one r form x y h k)
 
-pub one_answer : OnePolesAnswer → FaultForbids → AcyclicIsLoopless → HaveOneAnswer
-one_answer answer_same forbids loopless words bytes =
-    alike_then (AreAlike words) (λ x y e. inl e) (Asks words) (λ task. AnswersTask task bytes) (asks_one words) (λ task asked. task_alike answer_same forbids loopless words bytes task asked)
+pub one_answer : FaultForbids → AcyclicIsLoopless → SessionFacts → HaveOneAnswer
+one_answer forbids loopless facts words bytes =
+    alike_then (AreAlike words) (λ x y e. inl e) (Asks words) (λ task. AnswersTask task bytes) (asks_one words) (λ task asked. task_alike facts.poles forbids loopless facts words bytes task asked)

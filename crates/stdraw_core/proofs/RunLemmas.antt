@@ -23,13 +23,14 @@ use Rattle.st_words.specs.declared.words.Command.{Command}
 use Rattle.st_words.specs.declared.words.Command.TheVariants.{Query, Test, Draw, Lattice}
 use Rattle.st_words.specs.declared.words.DrawForm.{DrawForm}
 use Rattle.st_words.specs.declared.words.DrawForm.TheVariants.{Visibility, Tessellation, Constrained, Polyline, Dominance}
+use Rattle.st_report.specs.declared.stop.BadEdit.{BadEdit}
 use Rattle.st_report.specs.declared.stop.BadPath.{BadPath}
 use Rattle.st_report.specs.declared.stop.NoOrientation.{NoOrientation as unoriented}
 use Rattle.st_report.specs.declared.stop.NoOrientation.TheVariants.{OnePole, Loop, Apart, Cut}
 use Rattle.st_report.specs.declared.stop.NotSt.{NotSt as not_st}
 use Rattle.st_report.specs.declared.stop.NotSt.TheVariants.{BadOrder, BadFaces, Outer}
 use Rattle.st_report.specs.declared.stop.Refusal.{Refusal}
-use Rattle.st_report.specs.declared.stop.Refusal.TheVariants.{Words, TooManyBytes, Gml, Shape, NotSt, Path, UnknownVertex, TooLongDrawing, Eps, NotClean, NoOrientation}
+use Rattle.st_report.specs.declared.stop.Refusal.TheVariants.{Words, TooManyBytes, Gml, Shape, NotSt, Path, UnknownVertex, TooLongDrawing, Eps, NotClean, NoOrientation, BadRecord, TooManyRecords, Edit}
 use Rattle.st_report.specs.declared.stop.Status.TheVariants as status
 use Rattle.st_report.specs.declared.stop.Stop.{Stop}
 use Rattle.st_report.specs.declared.stop.Stop.TheVariants.{Refused, ReadFault, WriteFault, NoMemory}
@@ -37,7 +38,7 @@ use Rattle.st_report.specs.Lines.{status_of, stop_line, stop_status}
 use Rattle.st_report.specs.Telling.{Tells}
 use Rattle.st_test.specs.Planar.{StValue}
 use Rattle.st_words.specs.declared.words.Task.{Task}
-use Rattle.st_words.specs.declared.words.Task.TheVariants.{File, Check, Orient, Gen, Bench}
+use Rattle.st_words.specs.declared.words.Task.TheVariants.{File, Check, Orient, Session, Gen, Bench}
 use Rattle.st_words.specs.Words.{IsCommand, IsTask, IsFileless, HasOneTask}
 use Rattle.st_verdict.specs.File.{IsFew, IsTree, IsGraph, IsGraphIn, IsGraphWithin}
 use Rattle.st_verdict.specs.Stages.{Then, refuses, goes_on, IsToldBy}
@@ -112,22 +113,25 @@ pub never_told : {F : Type 0} (make : F → Refusal) (P : F → Type 0) (r : Ref
 never_told make P r other h = other h.fault h.is
 
 -- a refusal before the tree is looked at
-record IsEarly (r : Refusal) : Type 0 where
-  gml : (f : GmlFault) → r ≢ Gml f
-  shape : (f : ShapeFault) → r ≢ Shape f
-  not_st : (why : not_st) → r ≢ NotSt why
-  path : (why : BadPath) → r ≢ Path why
-  unknown : (n : ℤ) → r ≢ UnknownVertex n
-  oriented : (why : unoriented) → r ≢ NoOrientation why
+pub record IsEarly (r : Refusal) : Type 0 where
+  pub gml : (f : GmlFault) → r ≢ Gml f
+  pub shape : (f : ShapeFault) → r ≢ Shape f
+  pub not_st : (why : not_st) → r ≢ NotSt why
+  pub path : (why : BadPath) → r ≢ Path why
+  pub unknown : (n : ℤ) → r ≢ UnknownVertex n
+  pub oriented : (why : unoriented) → r ≢ NoOrientation why
+  pub bad : (at : ℕ) → r ≢ BadRecord at
+  pub many : (n : ℕ) → r ≢ TooManyRecords n
+  pub edit : (k : ℕ) (f : BadEdit) → r ≢ Edit k f
 
-words_early : IsEarly Words
-words_early = record { gml = λ f e. cc; shape = λ f e. cc; not_st = λ why e. cc; path = λ why e. cc; unknown = λ n e. cc; oriented = λ why e. cc }
+pub words_early : IsEarly Words
+words_early = record { gml = λ f e. cc; shape = λ f e. cc; not_st = λ why e. cc; path = λ why e. cc; unknown = λ n e. cc; oriented = λ why e. cc; bad = λ at e. cc; many = λ n e. cc; edit = λ k f e. cc }
 
-drawing_early : IsEarly TooLongDrawing
-drawing_early = record { gml = λ f e. cc; shape = λ f e. cc; not_st = λ why e. cc; path = λ why e. cc; unknown = λ n e. cc; oriented = λ why e. cc }
+pub drawing_early : IsEarly TooLongDrawing
+drawing_early = record { gml = λ f e. cc; shape = λ f e. cc; not_st = λ why e. cc; path = λ why e. cc; unknown = λ n e. cc; oriented = λ why e. cc; bad = λ at e. cc; many = λ n e. cc; edit = λ k f e. cc }
 
-bytes_early : IsEarly TooManyBytes
-bytes_early = record { gml = λ f e. cc; shape = λ f e. cc; not_st = λ why e. cc; path = λ why e. cc; unknown = λ n e. cc; oriented = λ why e. cc }
+pub bytes_early : IsEarly TooManyBytes
+bytes_early = record { gml = λ f e. cc; shape = λ f e. cc; not_st = λ why e. cc; path = λ why e. cc; unknown = λ n e. cc; oriented = λ why e. cc; bad = λ at e. cc; many = λ n e. cc; edit = λ k f e. cc }
 
 module _ (r : Refusal) (early : IsEarly r) where
   never_in : (bytes : List ℕ) → NeverGives r (IsGraphIn bytes)
@@ -135,7 +139,7 @@ module _ (r : Refusal) (early : IsEarly r) where
       never_then r (IsTree bytes) IsGraph (never_told (λ f. Gml f) (IsFirstFault bytes) r early.gml)
       (λ tree. never_told (λ f. Shape f) (λ f. shape_fault tree MOST_VERTICES MOST_EDGES ≡ Some f) r early.shape)
 
-  never_accepted : (g : InputGraph) → NeverGives r (IsAccepted g)
+  pub never_accepted : (g : InputGraph) → NeverGives r (IsAccepted g)
   never_accepted g =
       never_then r (HasPoles g) (λ p. Then (HasMap g) (IsPlanar g p)) (never_told (λ why. NotSt why) (HasNoPoles g) r early.not_st)
       (λ p. never_then r (HasMap g) (IsPlanar g p)
@@ -189,13 +193,11 @@ leaves_end P many long old new end (UnknownVertex n) h = end
 leaves_end P many long old new end (Eps line) h = end
 leaves_end P many long old new end (NotClean fault) h = end
 leaves_end P many long old new end (NoOrientation why) h = end
+leaves_end P many long old new end (BadRecord at) h = end
+leaves_end P many long old new end (TooManyRecords n) h = end
+leaves_end P many long old new end (Edit k f) h = end
 
 -- ---- the file
--- what a call gives, by its two clauses
-pub gives_both : {A : Type 0} (stage : Result A Refusal → Type 0) (result : Result A Stop) → IfOk result (λ x. stage (Ok x)) → StopsAt stage result → Gives stage result
-gives_both stage (Ok x) ok err = ok
-gives_both stage (Err stop) ok err = err
-
 pub length_refused : {S A : Type 0} (state : S → SourceState) (old new : S) (made : A → List ℕ → Type 0) → Reads state old new MOST_BYTES made (Err read.TooLong) → HasNoGraph (state old) (state new) TooManyBytes
 length_refused state old new made h =
     let consumed : Consumes (state old).left (state new).left h.taken = subst (λ z. Consumes (state old).left (state z).left h.taken) (sym h.ends.0) h.takes.consumed in
@@ -306,6 +308,7 @@ fileless_given : (task : Task) (bytes : List ℕ) (r : Refusal) → IsFileless t
 fileless_given (File command) bytes r off h = off
 fileless_given Check bytes r off h = off
 fileless_given (Orient from to) bytes r off h = off
+fileless_given Session bytes r off h = off
 fileless_given (Gen recipe) bytes r off h = h
 fileless_given (Bench recipe form) bytes r off h = h
 
@@ -313,6 +316,7 @@ reads_nothing : (task : Task) (s : SourceState) → IsFileless task → HasReadI
 reads_nothing (File command) s off = absurd off
 reads_nothing Check s off = absurd off
 reads_nothing (Orient from to) s off = absurd off
+reads_nothing Session s off = absurd off
 reads_nothing (Gen recipe) s off = refl
 reads_nothing (Bench recipe form) s off = refl
 
@@ -332,6 +336,7 @@ pub no_fileless : {P : Type 0} → HasOneTask → (words : List (List ℕ)) (com
 no_fileless one words command asked (File c) is off = absurd off
 no_fileless one words command asked Check is off = absurd off
 no_fileless one words command asked (Orient from to) is off = absurd off
+no_fileless one words command asked Session is off = absurd off
 no_fileless one words command asked (Gen r) is off = absurd (file_or_not (one words (File command) (Gen r) asked is))
   where
     file_or_not : File command ≡ Gen r → ⊥
@@ -367,6 +372,9 @@ refused_not_done TooLongDrawing e = cc
 refused_not_done (Eps line) e = cc
 refused_not_done (NotClean fault) e = cc
 refused_not_done (NoOrientation why) e = cc
+refused_not_done (BadRecord at) e = cc
+refused_not_done (TooManyRecords n) e = cc
+refused_not_done (Edit k f) e = cc
 refused_not_done (Shape shape.NoGraph) e = cc
 refused_not_done (Shape (shape.SecondGraph at)) e = cc
 refused_not_done (Shape (shape.BadKind at)) e = cc

@@ -14,7 +14,7 @@ use Rattle.st_test.specs.Planar.{StValue}
 use Rattle.st_words.specs.declared.words.Command.{Command}
 use Rattle.st_words.specs.declared.words.Command.TheVariants.{Query, Test, Draw, Lattice}
 use Rattle.st_words.specs.declared.words.Task.{Task}
-use Rattle.st_words.specs.declared.words.Task.TheVariants.{File, Check, Orient, Gen, Bench}
+use Rattle.st_words.specs.declared.words.Task.TheVariants.{File, Check, Orient, Session, Gen, Bench}
 use Rattle.st_words.specs.Words.{IsTask, AskOrient}
 use Rattle.st_verdict.specs.File.{IsGraphWithin}
 use Rattle.st_verdict.specs.Stages.{Then}
@@ -26,6 +26,7 @@ use Rattle.stdraw_core.specs.Generated.{AnswersGen}
 use Rattle.stdraw_core.specs.Lattice.{AnswersLattice}
 use Rattle.stdraw_core.specs.Oriented.{AnswersOrient}
 use Rattle.stdraw_core.specs.Query.{AnswersQuery}
+use Rattle.stdraw_core.specs.Session.{AnswersSession}
 use Rattle.stdraw_core.specs.Tested.{AnswersTest}
 
 -- the task that the words ask for; words that are no form of a command are refused
@@ -53,6 +54,7 @@ abbrev pub AnswersTask : Task → List ℕ → Result (List ℕ) Refusal → Typ
 AnswersTask (File command) bytes answer = AnswersFile command bytes answer
 AnswersTask Check bytes answer = AnswersCheck bytes answer
 AnswersTask (Orient from to) bytes answer = AnswersOrient from to bytes answer
+AnswersTask Session bytes answer = AnswersSession bytes answer
 AnswersTask (Gen r) bytes answer = AnswersGen r answer
 AnswersTask (Bench r form) bytes answer = AnswersBench r form answer
 

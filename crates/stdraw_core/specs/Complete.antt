@@ -5,6 +5,7 @@
 --   IsFitFile command left  the bytes that are left are those of a planar st-graph within the limits that fits the command
 --   HasCleanFile left       the bytes that are left are those of a clean drawing
 --   IsFitForPoles from to left  the bytes that are left are those of a graph that has an orientation with the poles of these names
+--   HasFitScript left       the bytes that are left are those of a planar st-graph with records that can all be carried out
 --   IsMet task source       the source has what the task asks; a generated graph asks for nothing
 --   Complete                words of a form, a file that meets what the command asks, and no fault of source or output:
 --                           Done, or want of memory
@@ -20,12 +21,17 @@ use Rattle.st_test.specs.Planar.{StValue}
 use Rattle.st_words.specs.declared.words.Command.{Command}
 use Rattle.st_words.specs.declared.words.Command.TheVariants.{Query, Test, Draw, Lattice}
 use Rattle.st_words.specs.declared.words.Task.{Task}
-use Rattle.st_words.specs.declared.words.Task.TheVariants.{File, Check, Orient, Gen, Bench}
+use Rattle.st_words.specs.declared.words.Task.TheVariants.{File, Check, Orient, Session, Gen, Bench}
 use Rattle.st_words.specs.Words.{IsTask}
 use Rattle.st_verdict.specs.File.{IsGraphWithin}
-use Rattle.stdraw_core.specs.Headline.{IsPlanarFile, IsCleanFile, IsOrientable}
+use Rattle.st_script.specs.declared.items.ScriptItem.{ScriptItem}
+use Rattle.st_session.specs.Runs.{Runs}
+use Rattle.st_session.specs.States.{SessionValue}
+use Rattle.st_session.specs.declared.reply.Reply.{Reply}
+use Rattle.stdraw_core.specs.Headline.{IsPlanarFile, IsCleanFile, IsOrientable, IsScriptFile}
 use Rattle.stdraw_core.specs.Paths.{HasValidPaths}
 use Rattle.stdraw_core.specs.Query.{AreKnown, names_of}
+use Rattle.stdraw_core.specs.Session.{calls_of, first_value}
 
 -- what the command asks beside a planar st-graph
 abbrev pub Fits : Command → InputGraph → StValue → Type 0
@@ -58,11 +64,24 @@ pub record IsFitForPoles (from to : ℤ) (left : Option (List ℕ)) : Type 0 whe
   pub graph : IsGraphWithin bytes (Ok g)
   pub orientable : IsOrientable from to g
 
+-- the bytes that are left are those of a planar st-graph within the limits, and its records can all be carried out
+pub record HasFitScript (left : Option (List ℕ)) : Type 0 where
+  pub bytes : List ℕ
+  pub told : left ≡ Some bytes
+  pub g : InputGraph
+  pub st : StValue
+  pub items : List ScriptItem
+  pub file : IsScriptFile bytes g st items
+  pub replies : List Reply
+  pub last : SessionValue
+  pub runs : Runs (first_value g st) (calls_of items) replies last
+
 -- the source has what the task asks; for a generated graph it need not even tell its bytes
 abbrev pub IsMet : Task → SourceState → Type 0
 IsMet (File command) src = IsFitFile command src.left
 IsMet Check src = HasCleanFile src.left
 IsMet (Orient from to) src = IsFitForPoles from to src.left
+IsMet Session src = HasFitScript src.left
 IsMet (Gen r) src = Unit {0}
 IsMet (Bench r form) src = Unit {0}
 

@@ -1,4 +1,5 @@
--- What is promised of every drawing, of every query, of every bound, of every orientation and of every check.
+-- What is promised of every drawing, of every query, of every bound, of every orientation, of every session and of
+-- every check.
 -- Letters: g graph of the file, st planar st-graph.
 --   IsPlanarFile bytes g st     the bytes are those of a planar st-graph within the limits
 --   IsDrawnFile                 the text of a right picture of it was written
@@ -16,6 +17,10 @@
 --   IsOrientationFile           the text of an orientation of the file was written
 --   OrientHeadlineFor           that is so exactly where the file's graph has such an orientation
 --   OrientHeadline              so it is for all names, where nothing outside has failed
+--   IsScriptFile bytes g st items  the bytes are those of a planar st-graph with these records
+--   IsSessionFile               one line for each question of the file was written, with its reply
+--   SessionHeadlineFor          that is so exactly where all records of the file can be carried out
+--   SessionHeadline             so it is where nothing outside has failed
 --   IsCleanFile bytes d         the bytes are the text of a drawing in which nothing is wrong
 --   IsAcceptedFile              the line of a clean drawing was written
 --   CheckHeadlineFor            that line is written exactly where the file has a clean drawing
@@ -28,13 +33,18 @@ use Rattle.gml_core.specs.Reading.{IsText}
 use Rattle.st_input.specs.InputGraph.{InputGraph}
 use Rattle.st_port.specs.Faults.{Rose}
 use Rattle.st_port.specs.Streams.{SourceState, SinkState, Gains}
-use Rattle.st_ids.specs.declared.limits.TheConstants.{MOST_DRAWING_BYTES}
+use Rattle.st_ids.specs.declared.limits.TheConstants.{MOST_DRAWING_BYTES, MOST_RECORDS}
+use Rattle.st_script.specs.Script.{IsScript}
+use Rattle.st_script.specs.declared.items.ScriptItem.{ScriptItem}
+use Rattle.st_session.specs.Runs.{Runs}
+use Rattle.st_session.specs.States.{IsState, SessionValue}
+use Rattle.st_session.specs.declared.reply.Reply.{Reply}
 use Rattle.st_shape.specs.Rules.{Drawing, IsPicture}
 use Rattle.st_shape.specs.Verdict.{IsRight}
 use Rattle.st_test.specs.Planar.{StValue}
 use Rattle.st_words.specs.declared.words.Command.TheVariants.{Draw, Query, Lattice}
 use Rattle.st_words.specs.declared.words.Operation.{Operation}
-use Rattle.st_words.specs.declared.words.Task.TheVariants.{Check, Orient}
+use Rattle.st_words.specs.declared.words.Task.TheVariants.{Check, Orient, Session}
 use Rattle.st_words.specs.declared.words.DrawForm.{DrawForm}
 use Rattle.st_report.specs.declared.stop.Status.{Status}
 use Rattle.st_report.specs.declared.stop.Status.TheVariants as status
@@ -44,6 +54,7 @@ use Rattle.stdraw_core.specs.Lattice.{AreBoundLines}
 use Rattle.stdraw_core.specs.Paths.{HasValidPaths}
 use Rattle.stdraw_core.specs.Oriented.{ArePolesNamed, IsOrientedFile, outer_at}
 use Rattle.stdraw_core.specs.Query.{AreAnswers, AreKnown, IsNamed, names_of}
+use Rattle.stdraw_core.specs.Session.{calls_of, first_value, reply_lines}
 use Rattle.st_bipolar.specs.Orientation.{IsOrientation}
 use Rattle.st_map.specs.Embedded.{Embedded}
 use Rattle.st_test.specs.declared.digraph_fault.Poles.{Poles}
@@ -182,6 +193,39 @@ pub record OrientHeadlineFor (from to : ℤ) (bytes : List ℕ) (old new : SinkS
 abbrev pub OrientHeadline : List (List ℕ) → SourceState → SourceState → SinkState → SinkState → Status → Type 0
 OrientHeadline words src src' out out' s = (from to : ℤ) (bytes : List ℕ) → IsTask words (Orient from to) → src.left ≡ Some bytes
     → s ≢ status.NoMemory → ¬ Rose src.faults src'.faults → ¬ Rose out.faults out'.faults → OrientHeadlineFor from to bytes out out' s
+
+-- the bytes are those of a planar st-graph, and these are the records of the file, as many as the limit at most
+pub record IsScriptFile (bytes : List ℕ) (g : InputGraph) (st : StValue) (items : List ScriptItem) : Type 0 where
+  pub planar : IsPlanarFile bytes g st
+  pub script : IsScript planar.tree items
+  pub few : length items ≤ MOST_RECORDS
+
+-- All records of the file were carried out, from the first state on, which leaves a planar st-graph again; and one
+-- line for each question was written. Its reply is that of the state that the edits before it have left, and so is
+-- as from scratch.
+pub record IsSessionFile (bytes : List ℕ) (old new : SinkState) : Type 0 where
+  pub g : InputGraph
+  pub st : StValue
+  pub items : List ScriptItem
+  pub file : IsScriptFile bytes g st items
+  pub replies : List Reply
+  pub last : SessionValue
+  pub runs : Runs (first_value g st) (calls_of items) replies last
+  pub state : IsState last.state
+  pub gains : Gains old new (reply_lines (calls_of items) replies)
+
+-- A session is answered where all records of the file can be carried out, and for no other file. Where one is
+-- refused, nothing is written.
+pub record SessionHeadlineFor (bytes : List ℕ) (old new : SinkState) (s : Status) : Type 0 where
+  pub answered : (g : InputGraph) (st : StValue) (items : List ScriptItem) → IsScriptFile bytes g st items
+      → (replies : List Reply) (last : SessionValue) → Runs (first_value g st) (calls_of items) replies last → s ≡ status.Done
+  pub right : s ≡ status.Done → IsSessionFile bytes old new
+  pub nothing : s ≢ status.Done → new ≡ old
+
+-- It is so for the words of a session, where memory sufficed, and neither the source nor the output had a fault.
+abbrev pub SessionHeadline : List (List ℕ) → SourceState → SourceState → SinkState → SinkState → Status → Type 0
+SessionHeadline words src src' out out' s = (bytes : List ℕ) → IsTask words Session → src.left ≡ Some bytes
+    → s ≢ status.NoMemory → ¬ Rose src.faults src'.faults → ¬ Rose out.faults out'.faults → SessionHeadlineFor bytes out out' s
 
 -- the bytes, at most as many as the limit, are the text of a drawing in which nothing is wrong
 pub record IsCleanFile (bytes : List ℕ) (d : Drawing) : Type 0 where

@@ -5,9 +5,11 @@ pub mod Tested
 pub mod Lattice
 pub mod Checked
 pub mod Oriented
+pub mod Session
 pub mod Generated
 pub mod Bench
 pub mod Answer
+pub mod Joined
 pub mod FirstFormat
 pub mod Outputs
 pub mod Run

@@ -26,7 +26,7 @@ use Rattle.st_report.specs.declared.stop.Refusal.TheVariants.{Words, TooManyByte
 use Rattle.st_report.specs.declared.stop.Stop.{Stop}
 use Rattle.st_report.specs.declared.stop.Stop.TheVariants.{Refused, ReadFault, WriteFault, NoMemory}
 use Rattle.st_words.specs.declared.words.Task.{Task}
-use Rattle.st_words.specs.declared.words.Task.TheVariants.{File, Check, Orient, Gen, Bench}
+use Rattle.st_words.specs.declared.words.Task.TheVariants.{File, Check, Orient, Session, Gen, Bench}
 use Rattle.st_words.specs.Words.{IsTask, IsFileless}
 use Rattle.st_report.specs.Telling.{Tells}
 use Rattle.st_report.specs.Lines.{status_of, line_of, stop_line}
@@ -38,6 +38,7 @@ abbrev pub most_bytes : Task → ℕ
 most_bytes (File command) = MOST_BYTES
 most_bytes Check = MOST_DRAWING_BYTES
 most_bytes (Orient from to) = MOST_BYTES
+most_bytes Session = MOST_BYTES
 most_bytes (Gen r) = 0
 most_bytes (Bench r form) = 0
 
@@ -76,6 +77,7 @@ abbrev pub HasReadInput : Task → SourceState → SourceState → Type 0
 HasReadInput (File command) old new = IsAtEnd new.left
 HasReadInput Check old new = IsAtEnd new.left
 HasReadInput (Orient from to) old new = IsAtEnd new.left
+HasReadInput Session old new = IsAtEnd new.left
 HasReadInput (Gen r) old new = new ≡ old
 HasReadInput (Bench r form) old new = new ≡ old
 

@@ -7,7 +7,6 @@
 mod bench;
 mod checked;
 mod drawing;
-mod feeding;
 mod generated;
 mod lattice;
 pub mod laws;
@@ -16,10 +15,11 @@ mod oriented;
 mod output;
 mod paths;
 mod query;
+mod session;
 mod tested;
 mod top;
 
-pub use st_report::{BadPath, NameList, NoOrientation, NotSt, Refusal, Status, Stop};
+pub use st_report::{BadEdit, BadPath, NameList, NoOrientation, NotSt, Refusal, Status, Stop};
 pub use st_words::{Command, DrawForm, Operation, Pairs, Spot};
 pub use top::run;
 
@@ -31,5 +31,7 @@ mod dominance_tests;
 mod generated_tests;
 #[cfg(test)]
 mod oriented_tests;
+#[cfg(test)]
+mod session_tests;
 #[cfg(test)]
 mod tests;

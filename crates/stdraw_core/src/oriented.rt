@@ -1,10 +1,9 @@
 //! The file of an orientation: the graph of a file with some edges turned, so that it is a planar st-graph from one
 //! vertex to another.
-ghost use Rattle.std.specs.Prelude.{◌≡◌, ◌≢◌, ◌<◌, length, IfOk, Ok};
+ghost use Rattle.std.specs.Prelude.{◌≡◌, ◌≢◌, ◌*◌, ◌<◌, length, IfOk, Ok};
 ghost use Rattle.gml_core.specs.Printing.{printed};
 ghost use Rattle.gml_core.specs.Sound.{IsSound};
 ghost use Rattle.st_input.specs.Written.{IsWritable, with_ends, written_entries};
-ghost use Rattle.st_map.specs.Embedded.{bare, edges};
 ghost use Rattle.st_map.specs.Orders.{HasNoLoop};
 ghost use Rattle.st_verdict.specs.Stops.{Gives, IsStop};
 ghost use Rattle.st_verdict.specs.Verdict.{HasMap};
@@ -12,8 +11,8 @@ ghost use Rattle.stdraw_core.specs.Oriented.{AnswersGraphOriented, AnswersPlane,
 
 use crate::query::unknown;
 use gml_core::print;
-use st_bipolar::{OrientFault, Oriented, orient};
-use st_ids::{EdgeId, NoMemory, Text};
+use st_bipolar::{Directed, OrientFault, direct};
+use st_ids::{Dart, Digraph, EdgeId, NoMemory, Text};
 use st_input::{GraphSpec, written_tree};
 use st_map::Map;
 use st_report::{NoOrientation, NotSt, Refusal, Stop};
@@ -88,18 +87,16 @@ fn fault_stop(spec: &GraphSpec, fault: OrientFault) -> Stop
     Stop::Refused(refusal)
 }
 
-// The printed form of the tree of an orientation.
-fn file_of(alloc: Global, spec: GraphSpec, oriented: Oriented) -> Result<Text, NoMemory>
+// The printed form of the tree of an orientation: the graph with these edges, and with the outer face of this end.
+fn file_of(alloc: Global, spec: GraphSpec, graph: Digraph, outer: Dart) -> Result<Text, NoMemory>
     requires writable { IsWritable spec }
-    requires vertices { oriented.graph.map.graph.vertices ≡ spec.graph.vertices }
-    requires edges { edges oriented.graph.map.graph ≡ length spec.graph.ends }
-    ensures text { IfOk result (λ out. out ≡ printed (written_entries (with_ends spec (bare oriented.graph.map.graph) oriented.graph.outer))) }
-    ensures sound { IfOk result (λ _. IsSound (written_entries (with_ends spec (bare oriented.graph.map.graph) oriented.graph.outer))) }
+    requires vertices { graph.vertices ≡ spec.graph.vertices }
+    requires edges { length graph.ends ≡ length spec.graph.ends }
+    requires outer { outer.0 < 2 * length graph.ends }
+    ensures text { IfOk result (λ out. out ≡ printed (written_entries (with_ends spec graph outer.0))) }
+    ensures sound { IfOk result (λ _. IsSound (written_entries (with_ends spec graph outer.0))) }
 {
-    let digraph = oriented.graph.map().digraph(alloc)?;
-    let end = oriented.graph.outer_end();
-    drop(oriented);
-    let made = spec.with_ends(alloc, digraph, end);
+    let made = spec.with_ends(alloc, graph, outer);
     let tree = written_tree(alloc, &made)?;
     print(alloc, &tree)
 }
@@ -114,11 +111,13 @@ fn plane_answer(alloc: Global, spec: GraphSpec, poles: Poles, map: Map) -> Resul
     requires map { HasMap spec (Ok map.graph) }
     ensures { Gives (AnswersPlane spec poles map.graph) result }
 {
-    let oriented = match orient(alloc, map, poles.source, poles.sink, spec.outer()) {
-        Ok(oriented) => oriented,
+    let directed = match direct(alloc, &map, poles.source, poles.sink, spec.outer()) {
+        Ok(directed) => directed,
         Err(fault) => return Err(fault_stop(&spec, fault)),
     };
-    match file_of(alloc, spec, oriented) {
+    drop(map);
+    let Directed { graph, outer, .. } = directed;
+    match file_of(alloc, spec, graph, outer) {
         Ok(text) => Ok(text),
         Err(NoMemory) => Err(Stop::NoMemory),
     }

@@ -32,8 +32,8 @@ fn append_point(text: &mut Text, p: Point, tail: &[u8]) -> Result<(), NoMemory>
     append_number(text, p.y, tail)
 }
 
-// Appends the line of a pair.
-fn append_line(
+/// Appends the line of a pair.
+pub fn append_line(
     text: &mut Text,
     from: i64,
     to: i64,

@@ -597,7 +597,7 @@ fn runs_over_a_reader_and_a_writer(rt: HostRuntime) -> Result<(), Fail> {
 }
 
 // A file with vertices 1, 2 and on, each with an edge to the next, and so many more edges from 1 to 2.
-fn file_of(alloc: Global, vertices: u32, more: u32) -> Result<Text, Fail> {
+pub fn file_of(alloc: Global, vertices: u32, more: u32) -> Result<Text, Fail> {
     let mut file = Text::new(alloc);
     let mut buffer = Buffer::new();
     file.append(b"graph [ ")?;

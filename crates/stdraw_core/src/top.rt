@@ -10,18 +10,18 @@ ghost use Rattle.st_verdict.specs.Verdict.{IsFound};
 ghost use Rattle.stdraw_core.specs.Answer.{AnswersCommand, AnswersGraph};
 ghost use Rattle.stdraw_core.specs.Complete.{Complete};
 ghost use Rattle.stdraw_core.specs.Exact.{Exact};
-ghost use Rattle.stdraw_core.specs.Headline.{CheckHeadline, Headline, LatticeHeadline, OrientHeadline, QueryHeadline};
+ghost use Rattle.stdraw_core.specs.Headline.{CheckHeadline, Headline, LatticeHeadline, OrientHeadline, QueryHeadline, SessionHeadline};
 ghost use Rattle.stdraw_core.specs.Run.{Decides, EndsBy, Finds, TakesAtMost, TakesFew};
 
 use crate::bench::answer_bench;
 use crate::checked::answer_check;
 use crate::drawing::answer_draw;
-use crate::feeding::{feed, graph_from};
 use crate::generated::answer_gen;
 use crate::lattice::answer_lattice;
 use crate::oriented::answer_orient;
 use crate::output::Output;
 use crate::query::answer_query;
+use crate::session::answer_session;
 use crate::tested::answer_test;
 use st_bipolar::laws::{fault_forbids, lists_kept};
 use st_ids::limits::{MOST_BYTES, MOST_EDGES, MOST_VERTICES};
@@ -30,9 +30,12 @@ use st_input::GraphSpec;
 use st_input::laws::{limits_hold, written_reads_back};
 use st_port::{Failed, ReadEnd, Sink, Source};
 use st_report::{Refusal, Status, Stop, report};
+use st_script::laws::one_script;
+use st_session::laws::{one_reply, session};
 use st_test::StGraph;
 use st_test::laws::{no_loop, one_poles_answer};
-use st_verdict::accept;
+use st_verdict::laws::{one_graph, one_tree};
+use st_verdict::{accept, feed, graph_from};
 use st_words::laws::one_task;
 use st_words::{Command, Task, task_of};
 use std::alloc::Global;
@@ -131,6 +134,22 @@ fn orient_source<S: Source>(alloc: Global, from: i64, to: i64, src: &mut S) -> R
     answer_orient(alloc, graph, from, to)
 }
 
+// What a session answers to what the source has left.
+fn session_source<S: Source>(alloc: Global, src: &mut S) -> Result<Text, Stop>
+    ensures decides { (words : List (List ℕ)) → IsTask words Task.Session → Decides words (S.state src.old) (S.state src.new) result }
+    ensures never_words { IsErrOf result (Stop.Refused Refusal.Words) → ⊥ }
+    ensures taken { TakesAtMost (MOST_BYTES + 4096) (S.state src.old).left (S.state src.new).left }
+    ensures count { GoesOn (S.state src.old).faults (S.state src.new).faults }
+{
+    let reader = match feed(alloc, src) {
+        Ok(reader) => reader,
+        Err(ReadEnd::Failed) => return Err(Stop::ReadFault),
+        Err(ReadEnd::TooLong) => return Err(Stop::Refused(Refusal::TooManyBytes)),
+        Err(ReadEnd::NoMemory) => return Err(Stop::NoMemory),
+    };
+    answer_session(alloc, reader)
+}
+
 // What is answered to the words and to what the source has left.
 fn decide<S: Source>(alloc: Global, words: &[String], src: &mut S) -> Result<Output, Stop>
     ensures decides { Decides (map string_bytes words.now) (S.state src.old) (S.state src.new) result }
@@ -150,6 +169,7 @@ fn decide<S: Source>(alloc: Global, words: &[String], src: &mut S) -> Result<Out
         Task::File(command) => answer_source(alloc, command, src),
         Task::Check => as_output(answer_check(alloc, src)),
         Task::Orient(from, to) => as_output(orient_source(alloc, *from, *to, src)),
+        Task::Session => as_output(session_source(alloc, src)),
         Task::Gen(recipe) => as_output(answer_gen(alloc, *recipe)),
         Task::Bench(recipe, form) => as_output(answer_bench(alloc, *recipe, *form)),
     }
@@ -204,11 +224,12 @@ pub fn run<S: Source, K: Sink, D: Sink>(
 ) -> Status
     ensures ending { EndsBy (map string_bytes words.now) (S.state src.old) (S.state src.new) (K.state out.old) (K.state out.new) (D.state diag.old) (D.state diag.new) result }
 
-    // The promise of every drawing, of every query, of every bound, of every orientation and of every check.
+    // The promise of every drawing, of every query, of every bound, of every orientation, of every session and of every check.
     ensures headline { Headline (map string_bytes words.now) (S.state src.old) (S.state src.new) (K.state out.old) (K.state out.new) result }
     ensures query { QueryHeadline (map string_bytes words.now) (S.state src.old) (S.state src.new) (K.state out.old) (K.state out.new) result }
     ensures lattice { LatticeHeadline (map string_bytes words.now) (S.state src.old) (S.state src.new) (K.state out.old) (K.state out.new) result }
     ensures orient { OrientHeadline (map string_bytes words.now) (S.state src.old) (S.state src.new) (K.state out.old) (K.state out.new) result }
+    ensures session { SessionHeadline (map string_bytes words.now) (S.state src.old) (S.state src.new) (K.state out.old) (K.state out.new) result }
     ensures check { CheckHeadline (map string_bytes words.now) (S.state src.old) (S.state src.new) (K.state out.old) (K.state out.new) result }
 
     // Status, line and output are those of the answer.
@@ -236,5 +257,10 @@ pub fn run<S: Source, K: Sink, D: Sink>(
     no_loop();
     written_reads_back();
     limits_hold();
+    one_tree();
+    one_graph();
+    one_script();
+    session();
+    one_reply();
     perform(alloc, words, src, out, diag)
 }

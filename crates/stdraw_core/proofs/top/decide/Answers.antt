@@ -21,6 +21,11 @@ returns-in-Orient-clause-decides g c =
     let decides = rw (to_z-of_z w64 c.in-Orient.from from_fits, to_z-of_z w64 c.in-Orient.to to_fits) at c.orient_source.ensures.decides in
     rw c.as_output-in-Orient.ensures (decides (map string_bytes c.args.words.now) asked)
 
+pub returns-in-Session-clause-decides : goal.returns-in-Session-clause-decides
+returns-in-Session-clause-decides g c =
+    let asked = rw c.in-Session.is at (rw c.in-Ok-Some.field-0-is at c.in-Ok-Some.ensures) in
+    rw c.as_output-in-Session.ensures (c.session_source.ensures.decides (map string_bytes c.args.words.now) asked)
+
 pub returns-in-Gen-clause-decides : goal.returns-in-Gen-clause-decides
 returns-in-Gen-clause-decides g c =
     let asked = rw c.in-Gen.is at (rw c.in-Ok-Some.field-0-is at c.in-Ok-Some.ensures) in
