@@ -19,7 +19,7 @@ struct Row {
 const LONG: &str =
     "graph [ node [ id 1 ] node [ id 2 ] node [ id 3 ] node [ id 4 ] edge [ source 1 target 2 minlen 3 ] edge [ source 1 target 3 ] edge [ source 2 target 4 ] edge [ source 3 target 4 ] ]";
 
-const ROWS: [Row; 6] = [
+const ROWS: [Row; 7] = [
     Row {
         words: "draw visibility",
         file: LONG,
@@ -53,6 +53,13 @@ const ROWS: [Row; 6] = [
         file: "graph [ node [ id 1 ] node [ id 2 ] edge [ source 1 target 2 minlen 2.0 ] ]",
         status: Status::Gml,
         line: "gml: wrong kind of value at 61\n",
+        out: "",
+    },
+    Row {
+        words: "draw polyline",
+        file: "graph [ node [ id 1 ] node [ id 2 ] edge [ source 1 target 2 minlen 501 ] edge [ ] ]",
+        status: Status::Gml,
+        line: "gml: bad minlen at 61\n",
         out: "",
     },
     Row {
