@@ -1,0 +1,4 @@
+mod AcceptedLemmas
+mod BuiltLemmas
+mod OverMemoryLemmas
+mod ReachingLemmas
