@@ -21,7 +21,7 @@ TOP = os.path.dirname(os.path.dirname(os.path.abspath(__file__)))
 SECONDS = 5
 COMMANDS = [["test"], ["query", "1", "2", "0", "1"], ["draw", "visibility"], ["draw", "tessellation"], ["draw", "constrained"],
             ["draw", "polyline", "left"], ["draw", "polyline", "middle"], ["draw", "polyline", "right"], ["draw", "dominance"],
-            ["join", "1", "2"], ["meet", "2", "0"], ["orient", "1", "2"], ["check"]]
+            ["join", "1", "2"], ["meet", "2", "0"], ["orient", "1", "2"], ["session"], ["check"]]
 NUMBER = r"-?[0-9]+"
 # The lines of each status.
 LINES = {
@@ -29,18 +29,22 @@ LINES = {
         f"not st: order at vertex {NUMBER}", "not st: faces: [0-9]+ vertices, [0-9]+ edges, [0-9]+ faces",
         "not st: outer face misses the (source|sink|source and the sink)"],
     3: ["gml: (bad byte|open string|bad number|big number|key without value|stray token|list too deep|unclosed list) at [0-9]+",
-        "gml: no graph", "gml: (second graph|wrong kind of value|node without id|unknown edge|bad outer|bad minlen) at [0-9]+",
+        "gml: no graph", "gml: (bad record|second graph|wrong kind of value|node without id|unknown edge|bad outer|bad minlen) at [0-9]+",
         f"gml: (node|edge) id {NUMBER} twice", "gml: edge [0-9]+ lacks an end", f"gml: edge [0-9]+ ends at unknown node {NUMBER}"],
-    4: ["limit: more than [0-9]+ bytes", "limit: [0-9]+ (vertices|edges), at most [0-9]+"],
+    4: ["limit: more than [0-9]+ bytes", "limit: [0-9]+ (vertices|edges|records), at most [0-9]+"],
     8: [f"path: [0-9]+ names unknown edge {NUMBER}", "path: [0-9]+ is no directed path", f"path: [0-9]+ shares edge {NUMBER}",
         f"path: [0-9]+ crosses path [0-9]+ at vertex {NUMBER}"],
     9: [f"unknown vertex: {NUMBER}"],
     10: ["not clean: item [0-9]+", "not clean: items [0-9]+ and [0-9]+", "not clean: area"],
     11: ["eps: bad line [0-9]+"],
+    12: [f"record [0-9]+: (vertex|edge) name {NUMBER} is used", f"record [0-9]+: unknown (vertex|edge) {NUMBER}",
+         "record [0-9]+: tail and head are one vertex", f"record [0-9]+: edge {NUMBER} is not at vertex {NUMBER}",
+         "record [0-9]+: corner in the outer face", f"record [0-9]+: vertex {NUMBER} reaches vertex {NUMBER}",
+         "record [0-9]+: corners in two faces", f"record [0-9]+: leaves a (source|sink) at vertex {NUMBER}"],
     13: ["no orientation: one vertex for both poles", f"no orientation: (edge {NUMBER} is a loop|vertex {NUMBER} is apart|vertex {NUMBER} cuts off vertex {NUMBER})"],
 }
 LINE_OF = {status: re.compile(("(" + "|".join(lines) + ")\n").encode()) for status, lines in LINES.items()}
-WORDS = [b"graph", b"node", b"edge", b"id", b"source", b"target", b"label", b"order", b"outer", b"path", b"e", b"side", b"minlen", b"[", b"]", b'"', b"-",
+WORDS = [b"graph", b"node", b"edge", b"id", b"source", b"target", b"label", b"order", b"outer", b"path", b"e", b"side", b"minlen", b"edit", b"ask", b"split", b"insert", b"remove", b"from", b"to", b"[", b"]", b'"', b"-",
          b"1.5", b"500", b"501", b"9223372036854775807", b"9223372036854775808", b"-9223372036854775808", b"0", b"1", b"2", b"\xef\xbb\xbf", b"\x00", b"\xff", b"#", b"\n"]
 
 

@@ -24,7 +24,7 @@ ROWS = [
     ("draw polyline right", "flow_chart"), ("draw dominance", "divisors"), ("test", "err_cycle"), ("test", "err_two_sources"),
     ("test", "err_order"), ("test", "err_faces"), ("test", "err_outer"), ("draw constrained", "err_path_crossing"),
     ("draw constrained", "err_path_unknown"), ("query 1 9", "err_unknown_vertex"), ("query 1 1", "err_unclosed"),
-    ("test", "from/yed"), ("join 4 6", "divisors"), ("meet 12 18", "divisors"), ("orient 2 3", "diamond"), ("orient 1 2", "chain"), ("check", "divisors.dominance.eps"),
+    ("test", "from/yed"), ("join 4 6", "divisors"), ("meet 12 18", "divisors"), ("orient 2 3", "diamond"), ("orient 1 2", "chain"), ("session", "plan_changed"), ("session", "err_edit_source"), ("session", "err_record"), ("check", "divisors.dominance.eps"),
     ("check", "circuit.tessellation.eps"), ("check", "err_crossing_lines.eps"), ("check", "err_no_drawing.eps"), ("gen 50 1", None), ("bench 50 1 dominance", None), ("draw circle", None),
 ]
 

@@ -4,8 +4,8 @@
 # In a table a cell of the shape `crate::call` `label`, `label` names a public call or a public law, and labels of clauses of
 # its contract; `crate::Type::method` names a method of a type, or of a trait, that the crate hands out. The crate's root file
 # has to hand the name out, it has to be public where it stands, and each label has to stand in its contract. Functions of
-# tests don't count. A file that is named as `name.edit` has to stand in the must-fail/ of a crate; one that is named as
-# `crates/..` has to be there.
+# tests don't count. A file that is named as `name.edit` has to stand in the must-fail/ of a crate, and each of those has its
+# row in PROOFS; one that is named as `crates/..` has to be there.
 top=$(CDPATH='' cd "$(dirname "$0")/.." && pwd) || exit 1
 failed=0
 tried=0
@@ -127,6 +127,11 @@ for edit in $(grep -oh '`[a-z_0-9]*\.edit`' "$top/README.md" "$top"/docs/*.md | 
     tried=$((tried + 1))
     set -- "$top"/crates/*/must-fail/"$edit"
     [ -e "$1" ] || say "no crate has must-fail/$edit"
+done
+for edit in "$top"/crates/*/must-fail/*.edit; do
+    tried=$((tried + 1))
+    crate=$(basename "$(dirname "$(dirname "$edit")")")
+    grep -q "^| $crate | \`$(basename "$edit")\` |" "$top/docs/PROOFS.md" || say "PROOFS has no row for $crate $(basename "$edit")"
 done
 for file in $(grep -oh '`crates/[A-Za-z_0-9/.]*`' "$top/README.md" "$top"/docs/*.md | tr -d '\140' | sort -u); do
     tried=$((tried + 1))

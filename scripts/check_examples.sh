@@ -31,6 +31,7 @@ status_of() {
         "limit: "*) echo 4 ;;
         "path: "*) echo 8 ;;
         "unknown vertex: "*) echo 9 ;;
+        "record "*) echo 12 ;;
         "no orientation: "*) echo 13 ;;
         "not clean: "*) echo 10 ;;
         "eps: "*) echo 11 ;;
