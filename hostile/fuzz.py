@@ -1,11 +1,12 @@
 #!/usr/bin/env python3
 """fuzz.py SEED COUNT [PROGRAM] [JOBS]: makes COUNT files from a seed, and runs every command on each.
 
-A file is an example, a graph or a drawing, or a generated graph that was damaged: cut off, doubled, bytes turned, keys exchanged, numbers put to
-their limits, an edge too many, an order turned round. A run is wrong where it ends by a signal, takes longer than the
-bound, has a status that no table names, a line that no table has, a line that isn't the status's, an output beside a status
-that isn't 0, or none beside 0. It prints how often each status came, and each wrong run with its file's number, so that
-the same seed makes that file again. Ends with 1 where a run was wrong.
+A file is an example, a graph or a drawing, or a generated graph that was damaged: cut off, doubled, bytes turned, keys
+exchanged, numbers put to their limits, an edge too many, an order turned round. A run is wrong where it ends by a signal,
+takes longer than the bound, has a status that no table names, a line that no table has, a line that isn't the status's,
+an output beside a status that isn't 0, or none beside 0, but for a session, which may have no question. It prints how
+often each status came, and each wrong run with its file's number, so that the same seed makes that file again. Ends
+with 1 where a run was wrong.
 """
 import collections
 import glob
@@ -111,12 +112,12 @@ def made(number, seed, texts):
     return text
 
 
-def fault(status, output, line):
-    """What is wrong with the end of a run, or nothing."""
+def fault(words, status, output, line):
+    """What is wrong with the end of a run, or nothing. A session without a question has no output."""
     if status < 0:
         return f"signal {-status}"
     if status == 0:
-        return None if output and not line else "done without an output, or with a line"
+        return None if (output or words == ["session"]) and not line else "done without an output, or with a line"
     if status not in LINE_OF:
         return f"status {status}"
     if output:
@@ -139,7 +140,7 @@ def try_files(given):
                 file.seek(0)
                 try:
                     done = subprocess.run([program, *words], stdin=file, capture_output=True, timeout=SECONDS)
-                    what = fault(done.returncode, done.stdout, done.stderr)
+                    what = fault(words, done.returncode, done.stdout, done.stderr)
                     counts[done.returncode] += 1
                 except subprocess.TimeoutExpired:
                     what = f"longer than {SECONDS} seconds"
