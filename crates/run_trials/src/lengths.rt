@@ -56,7 +56,7 @@ const ROWS: [Row; 7] = [
         out: "",
     },
     Row {
-        words: "draw polyline",
+        words: "draw polyline right",
         file: "graph [ node [ id 1 ] node [ id 2 ] edge [ source 1 target 2 minlen 501 ] edge [ ] ]",
         status: Status::Gml,
         line: "gml: bad minlen at 61\n",
