@@ -1,3 +1,4 @@
 mod PairLemmas
 mod KeyLemmas
 mod StepLemmas
+mod WrongKinds

@@ -9,6 +9,7 @@ mod firsts;
 mod keys;
 mod kinds;
 mod labels;
+pub mod laws;
 mod mentions;
 mod nodes;
 mod outer;
