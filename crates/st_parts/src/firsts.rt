@@ -24,6 +24,7 @@ pub(crate) struct Firsts<'a> {
 }
 
 /// The pair before, or else this one.
+#[inline(always)]
 pub(crate) fn or_pair<'a>(before: Option<&'a Pair>, pair: &'a Pair) -> Option<&'a Pair>
     ensures pair { option_map (λ p. entry_view p.now) result ≡ option_or (option_map (λ p. entry_view p.now) before.entry) (Some (entry_view pair.now)) }
     ensures sound { HasSoundList (datum_of (entry_view pair.now)) → IfSome before.entry (λ p. HasSoundList (datum_of (entry_view p.now))) → IfSome result (λ p. HasSoundList (datum_of (entry_view p.now))) }
@@ -35,6 +36,7 @@ pub(crate) fn or_pair<'a>(before: Option<&'a Pair>, pair: &'a Pair) -> Option<&'
 }
 
 /// The same with a pair that stands behind them.
+#[inline(always)]
 fn noted<'a>(firsts: Firsts<'a>, pair: &'a Pair) -> Firsts<'a>
     requires pair { HasSoundList (datum_of (entry_view pair.now)) }
     requires order { IfSome firsts.order (λ p. HasSoundList (datum_of (entry_view p.now))) }

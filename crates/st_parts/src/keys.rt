@@ -24,6 +24,7 @@ pub(crate) enum Key {
     Minlen,
 }
 
+#[inline(always)]
 fn known_key(bytes: &[u8]) -> Option<Key>
     ensures { result ≡ known bytes.now }
 {
@@ -44,6 +45,7 @@ fn known_key(bytes: &[u8]) -> Option<Key>
     }
 }
 
+#[inline(always)]
 fn spelled_key(pair: &Pair) -> Option<Key>
     ensures { result ≡ known (key_text (entry_view pair.now)) }
 {
@@ -51,6 +53,7 @@ fn spelled_key(pair: &Pair) -> Option<Key>
 }
 
 /// The key of a pair, where it is used.
+#[inline(always)]
 pub(crate) fn key_of(pair: &Pair) -> Option<Key>
     ensures { IsKnown result (entry_view pair.now) }
 {
