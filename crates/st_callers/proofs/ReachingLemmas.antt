@@ -1,5 +1,5 @@
 -- What two comparisons say of the walks of a graph, and one answer more.
-use Rattle.std.proofs.Common.{◌≡◌, ℕ, ◌+◌, ◌<◌, Bool, false, List, [], ◌∷◌, ◌++◌, length, get_or, inl, inr, sym, subst, ap, ◌∙◌, arith, length-append}
+use Rattle.std.proofs.Common.{◌≡◌, ℕ, ◌+◌, ◌<◌, Bool, false, List, [], ◌∷◌, ◌++◌, length, get_or, Result, Ok, Err, IfOk, inl, inr, sym, subst, ap, ◌∙◌, arith, length-append}
 use Rattle.std.specs.Prelude.{◌↔◌, IsTrue}
 use Rattle.std.proofs.Math.Seq.{get_or-append_seam}
 use Rattle.std.proofs.lemmas.Bool.{cases_eq}
@@ -8,7 +8,7 @@ use Rattle.st_ids.specs.Graph.{arcs_of}
 use Rattle.st_ids.specs.Walks.{Reaches}
 use Rattle.st_ids.specs.declared.ids.VertexId.{VertexId}
 use Rattle.st_map.specs.Embedded.{Embedded, bare}
-use Rattle.st_order.specs.Labels.{AreAtMost}
+use Rattle.st_order.specs.Labels.{AreAtMost, AreLabels}
 use Rattle.st_order.specs.declared.table.Labels.{Labels}
 use Rattle.st_sides.specs.Sides.{SidesValue, edge_count, edge_tail, edge_head, primal}
 use Rattle.st_sides.specs.SidesOf.{IsSidesOf}
@@ -19,19 +19,38 @@ same_walks : (g : Embedded) (s t outer : ℕ) (x : SidesValue) → IsSidesOf g s
 unfolding edge_count edge_tail edge_head
 same_walks g s t outer x of = ap (λ (es : List (ℕ × ℕ)). arcs_of (record { vertices = 0; ends = es })) of.ends
 
--- what decides comparisons, decides walks
-pub decides_walks : (g : Embedded) (s t outer : ℕ) (x : SidesValue) → IsSidesOf g s t outer x → (l : Labels)
+-- pairs of vertices have their numbers in both lists
+pub below_x : (g : Embedded) (s t outer : ℕ) (x : SidesValue) → IsSidesOf g s t outer x → (l : Labels) → AreLabels x l
+    → (pairs : List (VertexId × VertexId)) → ArePairsBelow g.vertices pairs → ArePairsBelow (length l.x) pairs
+below_x g s t outer x of l are pairs below = subst (λ n. ArePairsBelow n pairs) (sym (are.x.size ∙ of.vertices)) below
+
+pub below_y : (g : Embedded) (s t outer : ℕ) (x : SidesValue) → IsSidesOf g s t outer x → (l : Labels) → AreLabels x l
+    → (pairs : List (VertexId × VertexId)) → ArePairsBelow g.vertices pairs → ArePairsBelow (length l.y) pairs
+below_y g s t outer x of l are pairs below = subst (λ n. ArePairsBelow n pairs) (sym (are.y.size ∙ of.vertices)) below
+
+-- where comparisons decide walks along the edges of the sides, answers to the ones are answers to the others
+answers_walks : (g : Embedded) (s t outer : ℕ) (x : SidesValue) → IsSidesOf g s t outer x → (l : Labels)
     → ((u v : ℕ) → u < x.vertices → v < x.vertices → Reaches (primal x) u v ↔ AreAtMost l u v)
-    → (pairs : List (VertexId × VertexId)) → ArePairsBelow g.vertices pairs → (i : ℕ) → i < length pairs → (b : Bool)
-    → IsTrue b ↔ AreAtMost l (pair_at pairs i).0.0 (pair_at pairs i).1.0 → IsTrue b ↔ Reaches (arcs_of (bare g)) (pair_at pairs i).0.0 (pair_at pairs i).1.0
-decides_walks g s t outer x of l decides pairs below i k b h =
+    → (pairs : List (VertexId × VertexId)) → ArePairsBelow g.vertices pairs → (answers : List Bool) → length answers ≡ length pairs
+    → AnswersEach (AreAtMost l) pairs answers → AnswersEach (Reaches (arcs_of (bare g))) pairs answers
+answers_walks g s t outer x of l decides pairs below answers size each i k =
     let there : ArePairsBelow x.vertices pairs = subst (λ n. ArePairsBelow n pairs) (sym of.vertices) below in
-    let both = there i k in
+    let both = there i (omega (arith, k, size)) in
     let walk = decides (pair_at pairs i).0.0 (pair_at pairs i).1.0 both.0 both.1 in
-    let same = same_walks g s t outer x of in (
+    let same = same_walks g s t outer x of in
+    let h = each i k in (
       (λ y. subst (λ D. Reaches D (pair_at pairs i).0.0 (pair_at pairs i).1.0) same (walk.1 (h.0 y))),
       (λ w. h.1 (walk.0 (subst (λ D. Reaches D (pair_at pairs i).0.0 (pair_at pairs i).1.0) (sym same) w))),
     )
+
+-- the same where a call gives the answers
+pub walks_each : {T E : Type 0} (g : Embedded) (s t outer : ℕ) (x : SidesValue) → IsSidesOf g s t outer x → (l : Labels)
+    → ((u v : ℕ) → u < x.vertices → v < x.vertices → Reaches (primal x) u v ↔ AreAtMost l u v)
+    → (pairs : List (VertexId × VertexId)) → ArePairsBelow g.vertices pairs → (r : Result T E) (items : T → List Bool)
+    → IfOk r (λ a. length (items a) ≡ length pairs) → IfOk r (λ a. AnswersEach (AreAtMost l) pairs (items a))
+    → IfOk r (λ a. AnswersEach (Reaches (arcs_of (bare g))) pairs (items a))
+walks_each g s t outer x of l decides pairs below (Ok a) items size each = answers_walks g s t outer x of l decides pairs below (items a) size each
+walks_each g s t outer x of l decides pairs below (Err e) items size each = each
 
 -- one answer more
 pub answers_push : (P : ℕ → ℕ → Type 0) (pairs : List (VertexId × VertexId)) (n : ℕ) (answers answers' : List Bool) (b : Bool) → AnswersEach P pairs answers
