@@ -5,6 +5,7 @@ mod PathLemmas
 mod Fills
 mod BuildLemmas
 mod LawLemmas
+mod RepeatLemmas
 mod PlainLemmas
 mod ReadBack
 mod ZeroPlaces

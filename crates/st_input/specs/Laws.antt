@@ -4,14 +4,21 @@
 --   ReadsBack      the file of a plain graph is read again as that graph, whatever the places of its pairs
 --   ReadIsWritable   the graph of a sound text within limits can be written
 --   LengthsDefault   where no edge has a least length, each has the length 1
+--   FirstSameName   the first fault of the names of nodes, by their places
+--   FirstSameEdgeId   the same for the ids of edges
 --   WrittenReadsBack   so is the file of any graph without written paths, with all that the graph has
-use Rattle.std.specs.Prelude.{◌≡◌, ◌+◌, ◌<◌, ◌≤◌, ◌^◌, ℕ, [], length, replicate, slice_get, codes, true, None, Some}
+use Rattle.std.specs.Prelude.{◌≡◌, ◌↔◌, ◌+◌, ◌<◌, ◌≤◌, ◌^◌, ℕ, List, [], length, Option, replicate, slice_get, codes, true, None, Some}
 use Rattle.st_ids.specs.Graph.{Graph, HasEnds}
 use Rattle.gml_core.specs.Trees.{Entry, Entries, listed}
 use Rattle.gml_core.specs.Printing.{at_zero}
 use Rattle.gml_core.specs.Sound.{IsSound}
 use Rattle.st_parts.specs.Used.{has_key, first_with}
 use Rattle.st_parts.specs.Parts.{pairs_in}
+use Rattle.st_parts.specs.declared.parts.Node.{Node}
+use Rattle.st_parts.specs.declared.parts.Edge.{Edge}
+use Rattle.st_input.specs.declared.fault.ShapeFault.{ShapeFault}
+use Rattle.st_input.specs.Faults.{first_fault, node_fault, ids_fault}
+use Rattle.st_input.specs.Repeats.{NodesHave, EdgesHave}
 use Rattle.st_input.specs.InputGraph.{InputGraph, IsConsistent}
 use Rattle.st_input.specs.Embedding.{embedded_graph}
 use Rattle.st_input.specs.FirstFault.{shape_fault}
@@ -46,3 +53,11 @@ WrittenReadsBack = (g : InputGraph) (text : Entries) (max_n max_m : ℕ) → IsC
 -- the graph of a sound text within the limits can be written
 abbrev pub ReadIsWritable : Type 0
 ReadIsWritable = (text : Entries) (max_n max_m : ℕ) (g : InputGraph) → IsSound text → max_n + max_m + 2 < 2 ^ 31 → max_m < 2 ^ 30 → shape_fault text max_n max_m ≡ None → embedded_graph text ≡ Some g → IsWritable g
+
+-- the first fault of the names of nodes is what it says, and comes exactly then
+abbrev pub FirstSameName : Type 0
+FirstSameName = (ns : List Node) (fault : Option ShapeFault) → (first_fault node_fault [] ns ≡ fault) ↔ NodesHave ns fault
+
+-- the first fault of the names of edges is what it says, and comes exactly then
+abbrev pub FirstSameEdgeId : Type 0
+FirstSameEdgeId = (es : List Edge) (fault : Option ShapeFault) → (ids_fault es ≡ fault) ↔ EdgesHave es fault

@@ -10,4 +10,5 @@ pub mod GraphSpec
 pub mod Found
 pub mod Plain
 pub mod Written
+pub mod Repeats
 pub mod Laws

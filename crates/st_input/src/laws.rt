@@ -1,5 +1,6 @@
 //! What the definitions say together. Each function does nothing, and its contract is a law.
-ghost use Rattle.st_input.specs.Laws.{FitsTogether, KeepsLimits, LengthsDefault, ReadIsWritable, ReadsBack, WrittenReadsBack};
+ghost use Rattle.st_input.specs.Laws.{FirstSameEdgeId, FirstSameName, FitsTogether, KeepsLimits, LengthsDefault};
+ghost use Rattle.st_input.specs.Laws.{ReadIsWritable, ReadsBack, WrittenReadsBack};
 
 /// The tables of the graph of a text without a fault fit together: one name, one label and one order for each vertex,
 /// one name and one length for each edge, different names, labels that can be shown, and orders that list edges of the
@@ -34,4 +35,16 @@ pub fn written_reads_back()
 /// written.
 pub fn read_is_writable()
     ensures { ReadIsWritable }
+{}
+
+/// The first fault of the names of nodes, by their places: the first node without a name, or with one that an earlier
+/// node has; none exactly where all have names, and different ones.
+pub fn first_same_name()
+    ensures { FirstSameName }
+{}
+
+/// The first fault of the names of edges, by their places: where all edges have ids, the first id that an earlier edge
+/// has too; none exactly where an edge has no id, or the ids differ.
+pub fn first_same_edge_id()
+    ensures { FirstSameEdgeId }
 {}
