@@ -7,9 +7,6 @@ mod BuildLemmas
 mod LawLemmas
 mod RepeatLemmas
 mod PlainLemmas
-mod ReadBack
-mod ZeroPlaces
-mod WrittenBack
-mod WrittenLemmas
+mod EndsLemmas
 mod WritableLemmas
 pub mod Public

@@ -9,8 +9,6 @@ use Rattle.std.proofs.lemmas.List.FromFn.{length-map-range_with_len, get_or-map-
 use Rattle.std.proofs.lemmas.Option.{get_or_from_slice_get, slice_get_within}
 use Rattle.st_ids.specs.Graph.{Graph, AreWithin, tail_of, head_of}
 use Rattle.st_ids.specs.Lists.{In}
-use Rattle.gml_core.specs.Trees.{Entry, Entries, none, more, listed, push}
-use Rattle.gml_core.specs.Views.{entries_of}
 use Rattle.st_input.specs.Found.{tabled}
 use Rattle.st_ids.specs.Lengths.{IsLength}
 use Rattle.st_input.specs.InputGraph.{IsConsistent, AreShownLabels, AreListed}
@@ -147,15 +145,3 @@ plain_tabled g vs es ns ls os ps e0 e1 e2 e3 e4 e5 = rw (e0, e1, e2, e3, e4, e5)
 -- the same of tables that are told by their calls
 pub plain_built : (g : Graph) (n k m j : ℕ) (vs es : List ℤ) (ns : List ℕ) (ls : List (Option (List ℕ))) (os : List (List ℕ)) (ps : List (List ℤ)) → vs ≡ counted n → n ≡ g.vertices → es ≡ positions m → m ≡ length g.ends → ls ≡ replicate k None → k ≡ g.vertices → ns ≡ replicate j 1 → j ≡ length g.ends → os ≡ default_orders g → ps ≡ [] → tabled g (record { vertex = vs; edge = es; label = ls }) ns os None ps ≡ plain_graph g
 plain_built g n k m j vs es ns ls os ps e0 n_is e1 m_is e2 k_is e3 j_is e4 e5 = plain_tabled g vs es ns ls os ps (e0 ∙ ap counted n_is) (e1 ∙ ap positions m_is) (e3 ∙ ap (λ (i : ℕ). replicate i 1) j_is) (e2 ∙ ap (λ (i : ℕ). replicate i None) k_is) e4 e5
-
--- ---- a pair more
-pub listed_push : (es : Entries) (e : Entry) → listed (push es e) ≡ listed es ++ e ∷ []
-listed_push none e = refl
-listed_push (more d es) e = ap (λ (l : List Entry). d ∷ l) (listed_push es e)
-
-pub entries_listed : (es : Entries) → entries_of (listed es) ≡ es
-entries_listed none = refl
-entries_listed (more e es) = ap (λ (l : Entries). more e l) (entries_listed es)
-
-pub pushed_pairs : (old new : Entries) (e : Entry) → new ≡ push old e → listed new ≡ listed old ++ e ∷ []
-pushed_pairs old new e is = ap (λ (l : Entries). listed l) is ∙ listed_push old e

@@ -23,7 +23,7 @@ use Rattle.st_input.specs.Orders.{file_outs, file_ins, order_from, orders_from, 
 use Rattle.st_input.specs.InputGraph.{InputGraph}
 use Rattle.st_input.specs.Embedding.{embedded_in, embedded_graph}
 use Rattle.st_input.specs.FirstFault.{shape_fault}
-use Rattle.st_input.specs.Written.{HasNoQuote, IsWritable}
+use Rattle.st_input.specs.Writable.{HasNoQuote, IsWritable}
 use Rattle.st_input.proofs.LawLemmas.{within_limits}
 
 -- ---- strings

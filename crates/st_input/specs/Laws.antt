@@ -1,16 +1,12 @@
 -- What the definitions say together.
 --   FitsTogether   the tables of the graph of a text without a fault fit together
 --   KeepsLimits    a graph that is accepted is within the limits
---   ReadsBack      the file of a plain graph is read again as that graph, whatever the places of its pairs
 --   ReadIsWritable   the graph of a sound text within limits can be written
 --   LengthsDefault   where no edge has a least length, each has the length 1
 --   FirstSameName   the first fault of the names of nodes, by their places
 --   FirstSameEdgeId   the same for the ids of edges
---   WrittenReadsBack   so is the file of any graph without written paths, with all that the graph has
 use Rattle.std.specs.Prelude.{◌≡◌, ◌↔◌, ◌+◌, ◌<◌, ◌≤◌, ◌^◌, ℕ, List, [], length, Option, replicate, slice_get, codes, true, None, Some}
-use Rattle.st_ids.specs.Graph.{Graph, HasEnds}
 use Rattle.gml_core.specs.Trees.{Entry, Entries, listed}
-use Rattle.gml_core.specs.Printing.{at_zero}
 use Rattle.gml_core.specs.Sound.{IsSound}
 use Rattle.st_parts.specs.Used.{has_key, first_with}
 use Rattle.st_parts.specs.Parts.{pairs_in}
@@ -22,8 +18,7 @@ use Rattle.st_input.specs.Repeats.{NodesHave, EdgesHave}
 use Rattle.st_input.specs.InputGraph.{InputGraph, IsConsistent}
 use Rattle.st_input.specs.Embedding.{embedded_graph}
 use Rattle.st_input.specs.FirstFault.{shape_fault}
-use Rattle.st_input.specs.Plain.{plain_graph, plain_entries}
-use Rattle.st_input.specs.Written.{IsWritable, written_entries}
+use Rattle.st_input.specs.Writable.{IsWritable}
 
 -- the tables of the graph of a text without a fault fit together
 abbrev pub FitsTogether : Type 0
@@ -40,15 +35,6 @@ HasNoLengths text = (g e : Entry) (k : ℕ) → first_with (codes "graph") (list
 -- where no edge has the key `minlen`, each edge has the length 1
 abbrev pub LengthsDefault : Type 0
 LengthsDefault = (text : Entries) (g : InputGraph) → HasNoLengths text → embedded_graph text ≡ Some g → g.lengths ≡ replicate (length g.graph.ends) 1
-
--- a text with the pairs of a plain graph within the limits, at any places, has no fault, and its graph is that one
-abbrev pub ReadsBack : Type 0
-ReadsBack = (g : Graph) (text : Entries) (max_n max_m : ℕ) → HasEnds g → g.vertices ≤ max_n → length g.ends ≤ max_m → at_zero text ≡ at_zero (plain_entries (plain_graph g)) → (shape_fault text max_n max_m ≡ None) × (embedded_graph text ≡ Some (plain_graph g))
-
--- a text with the written pairs of a graph without written paths, within the limits and at any places, has no fault, and
--- its graph is that one
-abbrev pub WrittenReadsBack : Type 0
-WrittenReadsBack = (g : InputGraph) (text : Entries) (max_n max_m : ℕ) → IsConsistent g → HasEnds g.graph → g.paths ≡ [] → g.graph.vertices ≤ max_n → length g.graph.ends ≤ max_m → at_zero text ≡ at_zero (written_entries g) → (shape_fault text max_n max_m ≡ None) × (embedded_graph text ≡ Some g)
 
 -- the graph of a sound text within the limits can be written
 abbrev pub ReadIsWritable : Type 0

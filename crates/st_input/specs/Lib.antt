@@ -9,6 +9,7 @@ pub mod FirstFault
 pub mod GraphSpec
 pub mod Found
 pub mod Plain
-pub mod Written
+pub mod Writable
+pub mod WithEnds
 pub mod Repeats
 pub mod Laws

@@ -13,7 +13,8 @@ ghost use Rattle.st_input.specs.InputGraph.{AreShownLabels, AreListed, IsConsist
 ghost use Rattle.st_input.specs.Names.{AreDifferent};
 ghost use Rattle.st_parts.specs.Parts.{parts_in};
 ghost use Rattle.st_input.specs.Paths.{ArePathsThere, PathsFailBy, path_name_fault, paths_by};
-ghost use Rattle.st_input.specs.Written.{IsWritable, with_ends};
+ghost use Rattle.st_input.specs.WithEnds.{with_ends};
+ghost use Rattle.st_input.specs.Writable.{IsWritable};
 ghost use Rattle.st_parts.specs.Used.{HasSoundList, datum_of, first_with};
 ghost use Rattle.std.specs.Prelude.{◌≡◌, ◌≢◌, ◌<◌, ◌≤◌, ◌*◌, ◌^◌, ℕ, codes, length, option_map, slice_get, All, None, Some, IfOk, IfSome, MatchOption, OnOk};
 
@@ -154,7 +155,7 @@ impl GraphSpec {
     ///
     /// Shape: the outer face is that of the end `outer`; there are no written paths.
     /// Cost: O(1); the tables are handed on. Not proved.
-    #[tactic(auto, using(crate::proofs::WrittenLemmas::ends_fit))]
+    #[tactic(auto, using(crate::proofs::EndsLemmas::ends_fit))]
     pub fn with_ends(self, alloc: Global, graph: Digraph, outer: Dart) -> GraphSpec
         requires vertices { graph.vertices ≡ self.graph.vertices }
         requires edges { length graph.ends ≡ length self.graph.ends }

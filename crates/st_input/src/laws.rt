@@ -1,6 +1,6 @@
 //! What the definitions say together. Each function does nothing, and its contract is a law.
 ghost use Rattle.st_input.specs.Laws.{FirstSameEdgeId, FirstSameName, FitsTogether, KeepsLimits, LengthsDefault};
-ghost use Rattle.st_input.specs.Laws.{ReadIsWritable, ReadsBack, WrittenReadsBack};
+ghost use Rattle.st_input.specs.Laws.{ReadIsWritable};
 
 /// The tables of the graph of a text without a fault fit together: one name, one label and one order for each vertex,
 /// one name and one length for each edge, different names, labels that can be shown, and orders that list edges of the
@@ -17,18 +17,6 @@ pub fn limits_hold()
 /// Where no edge of a text has the key `minlen`, each edge of its graph has the length 1.
 pub fn lengths_default()
     ensures { LengthsDefault }
-{}
-
-/// The tree of a plain graph is read again as that graph, whatever the places of its pairs, where the graph is within
-/// the limits. What `parse` answers of the printed tree differs from the tree in places alone.
-pub fn reads_back()
-    ensures { ReadsBack }
-{}
-
-/// The tree of a graph without written paths, with its names, lengths, labels, orders and outer face, is read again as
-/// that graph, whatever the places of its pairs, where the graph is within the limits.
-pub fn written_reads_back()
-    ensures { WrittenReadsBack }
 {}
 
 /// The graph of a sound text without a fault, within limits that leave room in a list for all its pairs, can be

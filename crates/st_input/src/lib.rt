@@ -13,17 +13,15 @@ mod paths;
 mod plain;
 mod runs;
 mod tables;
-mod written;
 
 pub use fault::{PathNameFault, ShapeFault};
 pub use graph::{GraphSpec, read_graph};
-pub use written::{plain_tree, written_tree};
 
 #[cfg(test)]
 mod tests {
     use super::*;
-    use gml_core::{parse, print};
-    use st_ids::{Dart, Digraph, EdgeId, Text, VertexId};
+    use gml_core::parse;
+    use st_ids::{Dart, EdgeId, VertexId};
     use std::alloc::Global;
     use std::test::Fail;
 
@@ -211,50 +209,6 @@ mod tests {
             let said = paths_said(alloc, text)?;
             assert_eq!(rt; said.as_str(), expected);
         }
-        Ok(())
-    }
-
-    /// The text of a plain graph with three vertices and three edges.
-    fn plain_text(alloc: Global) -> Result<Text, Fail> {
-        let mut graph = Digraph::new(alloc);
-        graph.add_vertices(3);
-        graph.add_edge(VertexId(0), VertexId(1))?;
-        graph.add_edge(VertexId(0), VertexId(2))?;
-        graph.add_edge(VertexId(2), VertexId(1))?;
-        let spec = GraphSpec::plain(alloc, graph)?;
-        let tree = plain_tree(alloc, &spec)?;
-        Ok(print(alloc, &tree)?)
-    }
-
-    #[test]
-    fn a_plain_graph_is_printed(rt: HostRuntime) -> Result<(), Fail> {
-        let text = plain_text(rt.alloc())?;
-        assert_eq!(rt;
-            text.bytes(),
-            b"graph [\ndirected 1\nnode [\nid 1\n]\nnode [\nid 2\n]\nnode [\nid 3\n]\nedge [\nsource 1\ntarget 2\n]\nedge [\nsource 1\ntarget 3\n]\nedge [\nsource 3\ntarget 2\n]\n]\n".as_slice()
-        );
-        Ok(())
-    }
-
-    /// The text that is written of the graph of a text.
-    fn written_text(alloc: Global, text: &[u8]) -> Result<Text, Fail> {
-        if text.len() > 400 {
-            return Err(Fail::from(ShapeFault::NoMemory));
-        }
-        let tree = parse(alloc, text)?;
-        let spec = read_graph(alloc, &tree, 3, 4)?;
-        laws::read_is_writable();
-        let written = written_tree(alloc, &spec)?;
-        Ok(print(alloc, &written)?)
-    }
-
-    #[test]
-    fn a_graph_is_written_whole(rt: HostRuntime) -> Result<(), Fail> {
-        let text = written_text(rt.alloc(), TEXT)?;
-        assert_eq!(rt;
-            text.bytes(),
-            b"graph [\ndirected 1\nouter [\nedge 12\nside 1\n]\nnode [\nid -1\nlabel \"s?(\"\norder [\ne 10\ne 12\ne 13\n]\n]\nnode [\nid 5\norder [\ne 11\ne 13\ne 12\n]\n]\nnode [\nid 7\norder [\ne 11\ne 10\n]\n]\nedge [\nid 10\nsource -1\ntarget 7\n]\nedge [\nid 11\nsource 5\ntarget 7\nminlen 500\n]\nedge [\nid 12\nsource -1\ntarget 5\n]\nedge [\nid 13\nsource -1\ntarget 5\n]\n]\n".as_slice()
-        );
         Ok(())
     }
 }

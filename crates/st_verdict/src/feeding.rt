@@ -4,7 +4,7 @@ ghost use Rattle.gml_core.specs.Readers.{TreeStandsFor};
 ghost use Rattle.gml_core.specs.Sound.{IsSound};
 ghost use Rattle.gml_core.specs.Views.{view};
 ghost use Rattle.st_input.specs.InputGraph.{IsConsistent};
-ghost use Rattle.st_input.specs.Written.{IsWritable};
+ghost use Rattle.st_input.specs.Writable.{IsWritable};
 ghost use Rattle.st_port.specs.Faults.{GoesOn};
 ghost use Rattle.st_port.specs.Reading.{Reads};
 ghost use Rattle.st_verdict.specs.File.{IsGraphIn, IsTree};

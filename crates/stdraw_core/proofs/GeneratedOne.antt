@@ -5,7 +5,8 @@ use Rattle.st_gen.proofs.Public.{one_graph}
 use Rattle.st_ids.specs.Graph.{Graph}
 use Rattle.st_input.specs.InputGraph.{InputGraph}
 use Rattle.st_words.specs.declared.words.Recipe.{Recipe}
-use Rattle.st_input.specs.Plain.{plain_graph, plain_entries}
+use Rattle.st_input.specs.Plain.{plain_graph}
+use Rattle.st_writer.specs.Plain.{plain_entries}
 use Rattle.stdraw_core.specs.Generated.{IsGenerated, IsFileOf}
 
 same_graph : (g g' : Graph) → g.vertices ≡ g'.vertices → g.ends ≡ g'.ends → g ≡ g'

@@ -19,7 +19,8 @@ use Rattle.gml_core.specs.Sound.{IsSpelled, IsWellEntry, AreWell}
 use Rattle.gml_core.specs.Trees.{list, Entry, entry, Entries, none, more, depth, entry_depth, all_fit, entry_fits}
 use Rattle.gml_core.specs.Views.{entries_of}
 use Rattle.st_input.specs.InputGraph.{InputGraph}
-use Rattle.st_input.specs.Plain.{counted, int_pair, node_pair, edge_pair, graph_pairs, plain_entries}
+use Rattle.st_input.specs.Plain.{counted}
+use Rattle.st_writer.specs.Plain.{int_pair, node_pair, edge_pair, graph_pairs, plain_entries}
 
 -- ---- names
 pub record IsSmall (z : ℤ) : Type 0 where

@@ -7,7 +7,8 @@ use Rattle.std.specs.Prelude.{◌≡◌, ℕ, List, Result, Ok, Err}
 use Rattle.gml_core.specs.Printing.{printed}
 use Rattle.st_gen.specs.Made.{IsMade}
 use Rattle.st_input.specs.InputGraph.{InputGraph, IsConsistent}
-use Rattle.st_input.specs.Plain.{plain_graph, plain_entries}
+use Rattle.st_input.specs.Plain.{plain_graph}
+use Rattle.st_writer.specs.Plain.{plain_entries}
 use Rattle.st_report.specs.declared.stop.Refusal.{Refusal}
 use Rattle.st_words.specs.declared.words.Recipe.{Recipe}
 

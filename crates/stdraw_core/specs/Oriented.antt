@@ -20,7 +20,8 @@ use Rattle.st_bipolar.specs.declared.orienting.OrientFault.{OrientFault}
 use Rattle.st_bipolar.specs.declared.orienting.OrientFault.TheVariants as orient_fault
 use Rattle.st_ids.specs.Graph.{Graph, tail_of, head_of}
 use Rattle.st_input.specs.InputGraph.{InputGraph}
-use Rattle.st_input.specs.Written.{with_ends, written_entries}
+use Rattle.st_input.specs.WithEnds.{with_ends}
+use Rattle.st_writer.specs.Written.{written_entries}
 use Rattle.st_map.specs.Embedded.{Embedded, bare}
 use Rattle.st_map.specs.Orders.{HasNoLoop}
 use Rattle.st_report.specs.declared.stop.NoOrientation.TheVariants.{OnePole, Loop, Apart, Cut}

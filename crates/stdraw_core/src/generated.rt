@@ -7,9 +7,9 @@ ghost use Rattle.st_verdict.specs.Stops.{Gives};
 use gml_core::print;
 use st_gen::make;
 use st_ids::{NoMemory, Text};
-use st_input::plain_tree;
 use st_report::Stop;
 use st_words::Recipe;
+use st_writer::plain_tree;
 use std::alloc::Global;
 
 // The printed tree of the generated graph.

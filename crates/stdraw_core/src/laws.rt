@@ -8,11 +8,12 @@ ghost use Rattle.stdraw_core.specs.Joined.{GeneratedIsDrawn, GeneratedIsTested};
 use eps_core::laws::short_text;
 use st_bipolar::laws::fault_forbids;
 use st_gen::laws::accepted;
-use st_input::laws::{lengths_default, limits_hold, reads_back};
+use st_input::laws::{lengths_default, limits_hold};
 use st_script::laws::one_script;
 use st_session::laws::{one_reply, session};
 use st_test::laws::{no_loop, one_poles_answer};
 use st_verdict::laws::{one_graph, one_tree};
+use st_writer::laws::reads_back;
 
 /// Words and bytes have at most one answer, though reaching is said by walks; of orientations there may be several, but
 /// either there is one or there is one refusal.

@@ -3,7 +3,9 @@
 ghost use Rattle.std.specs.Prelude.{◌≡◌, ◌≢◌, ◌*◌, ◌<◌, length, IfOk, Ok};
 ghost use Rattle.gml_core.specs.Printing.{printed};
 ghost use Rattle.gml_core.specs.Sound.{IsSound};
-ghost use Rattle.st_input.specs.Written.{IsWritable, with_ends, written_entries};
+ghost use Rattle.st_input.specs.WithEnds.{with_ends};
+ghost use Rattle.st_input.specs.Writable.{IsWritable};
+ghost use Rattle.st_writer.specs.Written.{written_entries};
 ghost use Rattle.st_map.specs.Orders.{HasNoLoop};
 ghost use Rattle.st_verdict.specs.Stops.{Gives, IsStop};
 ghost use Rattle.st_verdict.specs.Verdict.{HasMap};
@@ -13,11 +15,12 @@ use crate::query::unknown;
 use gml_core::print;
 use st_bipolar::{Directed, OrientFault, direct};
 use st_ids::{Dart, Digraph, EdgeId, NoMemory, Text};
-use st_input::{GraphSpec, written_tree};
+use st_input::GraphSpec;
 use st_map::Map;
 use st_report::{NoOrientation, NotSt, Refusal, Stop};
 use st_test::Poles;
 use st_verdict::{map_of, name_of_edge, name_of_vertex};
+use st_writer::written_tree;
 use std::alloc::Global;
 
 // The vertices of the two names.

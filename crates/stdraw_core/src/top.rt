@@ -3,7 +3,7 @@ ghost use Rattle.std.specs.Prelude.{◌≡◌, ◌≢◌, ◌≤◌, ◌+◌, �
 ghost use Rattle.std.specs.String.{string_bytes};
 ghost use Rattle.st_port.specs.Faults.{GoesOn};
 ghost use Rattle.st_input.specs.InputGraph.{IsConsistent};
-ghost use Rattle.st_input.specs.Written.{IsWritable};
+ghost use Rattle.st_input.specs.Writable.{IsWritable};
 ghost use Rattle.st_words.specs.Words.{IsTask, IsFileless};
 ghost use Rattle.st_verdict.specs.Stops.{Gives};
 ghost use Rattle.st_verdict.specs.Verdict.{IsFound};
@@ -27,7 +27,7 @@ use st_bipolar::laws::{fault_forbids, lists_kept};
 use st_ids::limits::{MOST_BYTES, MOST_EDGES, MOST_VERTICES};
 use st_ids::{NoMemory, Text};
 use st_input::GraphSpec;
-use st_input::laws::{limits_hold, written_reads_back};
+use st_input::laws::limits_hold;
 use st_port::{Failed, ReadEnd, Sink, Source};
 use st_report::{Refusal, Status, Stop, report};
 use st_script::laws::one_script;
@@ -38,6 +38,7 @@ use st_verdict::laws::{one_graph, one_tree};
 use st_verdict::{accept, feed, graph_from};
 use st_words::laws::one_task;
 use st_words::{Command, Task, task_of};
+use st_writer::laws::written_reads_back;
 use std::alloc::Global;
 
 // The text as an output.

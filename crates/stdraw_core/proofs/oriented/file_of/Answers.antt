@@ -1,7 +1,7 @@
 use Rattle.std.proofs.Common.{ap, subst, ◌∙◌}
 use Rattle.gml_core.specs.Printing.{printed}
 use Rattle.gml_core.specs.Sound.{IsSound}
-use Rattle.st_input.specs.Written.{written_entries}
+use Rattle.st_writer.specs.Written.{written_entries}
 use Rattle.stdraw_core.proofs.DrawingLemmas.{if_ok}
 use Rattle.stdraw_core.proofs.oriented.file_of.Goals as goal
 

@@ -4,7 +4,8 @@ use Rattle.gml_core.specs.Sound.{IsSound}
 use Rattle.st_bipolar.specs.Orientation.{IsOrientation, turned_end}
 use Rattle.st_bipolar.specs.OrientFault.{IsOrientFault}
 use Rattle.st_bipolar.specs.Turning.{is_turned, with_lists}
-use Rattle.st_input.specs.Written.{with_ends, written_entries}
+use Rattle.st_input.specs.WithEnds.{with_ends}
+use Rattle.st_writer.specs.Written.{written_entries}
 use Rattle.st_map.specs.Embedded.{Embedded}
 use Rattle.st_test.specs.Planar.{outer_of}
 use Rattle.st_verdict.proofs.Public.{outer_same}

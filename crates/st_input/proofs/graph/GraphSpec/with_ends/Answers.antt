@@ -1,6 +1,6 @@
 use Rattle.std.proofs.Common.{sym, subst, arith}
 use Rattle.st_input.specs.GraphSpec.{graph_view}
-use Rattle.st_input.specs.Written.{IsWritable}
+use Rattle.st_input.specs.Writable.{IsWritable}
 use Rattle.st_input.proofs.graph.GraphSpec.with_ends.Goals as goal
 
 pub returns-clause-writable : goal.returns-clause-writable

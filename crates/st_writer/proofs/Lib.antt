@@ -1,0 +1,4 @@
+mod ReadBack
+mod ZeroPlaces
+mod WrittenBack
+mod WrittenLemmas

@@ -1,0 +1,5 @@
+use Rattle.st_writer.proofs.ReadBack.{reads_back}
+use Rattle.st_writer.proofs.laws.reads_back.Goals as goal
+
+pub returns : goal.returns
+returns c = reads_back
