@@ -1,11 +1,10 @@
 //! Files that come in pieces: every cut leaves the status, the output and the line of the whole file.
 
 use crate::files::{EDGE, FAULTY, NESTED};
-use crate::runs::{AMPLE, Outcome, Streams, no_row, ran, ran_over};
+use crate::runs::{AMPLE, Outcome, Streams, is_same, is_told, no_row, ran, ran_over};
 use st_port::StdSource;
 use std::alloc::Global;
 use std::io::Read;
-use std::process::Abort;
 use std::test::Fail;
 use stdraw_core::Status;
 
@@ -14,13 +13,6 @@ fn ran_in_two(alloc: Global, line: &str, file: &[u8], n: usize) -> Result<Outcom
     let (first, second) = file.split_at(n.min(file.len()));
     let mut src = StdSource::new(first.chain(second));
     ran_over(alloc, line, &mut src, &AMPLE)
-}
-
-// Whether both runs left the same.
-fn is_same(one: &Outcome, other: &Outcome) -> bool {
-    one.status == other.status
-        && one.out.bytes() == other.out.bytes()
-        && one.line.bytes() == other.line.bytes()
 }
 
 // Whether the file in two pieces, the first of n bytes, and in pieces of n bytes, written in pieces as short, leaves the same.
@@ -54,7 +46,7 @@ fn is_uncut(alloc: Global, line: &str, file: &[u8], whole: &Outcome) -> Result<b
 fn bad_fault(alloc: Global) -> Result<Option<&'static str>, Fail> {
     for (file, told) in FAULTY {
         let whole = ran(alloc, "query 1 1", file.as_bytes(), &AMPLE)?;
-        let is_right = whole.status == Status::Gml && whole.line.bytes() == told.as_bytes();
+        let is_right = is_told(&whole, Status::Gml, told);
         if !is_right || !is_uncut(alloc, "query 1 1", file.as_bytes(), &whole)? {
             return Ok(Some(told));
         }

@@ -1,7 +1,7 @@
 //! Runs over streams that fail, call by call, and over streams with little room.
 
 use crate::files::{CYCLE, EDGE};
-use crate::runs::{AMPLE, Outcome, Streams, no_number, ran, status_of};
+use crate::runs::{AMPLE, Outcome, Streams, no_number, no_row, ran, status_of};
 use st_port::{MemSink, MemSource, StdSink};
 use std::alloc::Global;
 use std::io;
@@ -159,5 +159,75 @@ fn is_unflushed(alloc: Global) -> Result<bool, Fail> {
 #[test]
 fn a_flush_can_fail(rt: HostRuntime) -> Result<(), Fail> {
     assert!(rt; is_unflushed(rt.alloc())?);
+    Ok(())
+}
+
+/// A run whose source or whose output fails: its words and file, its streams, its status, its line, and what was written.
+#[derive(Clone, Copy)]
+struct Stopped {
+    words: &'static str,
+    file: &'static str,
+    streams: Streams,
+    status: Status,
+    line: &'static str,
+    out: &'static str,
+}
+
+const STOPPED: [Stopped; 3] = [
+    Stopped {
+        words: "query 1 2",
+        file: EDGE,
+        streams: Streams {
+            read_fails: 1,
+            ..AMPLE
+        },
+        status: Status::ReadFault,
+        line: "read fault\n",
+        out: "",
+    },
+    Stopped {
+        words: "query 1 2",
+        file: EDGE,
+        streams: Streams {
+            piece_in: 1,
+            piece_out: 3,
+            write_fails: 2,
+            line_piece: 1,
+            ..AMPLE
+        },
+        status: Status::WriteFault,
+        line: "write fault\n",
+        out: "1 2",
+    },
+    Stopped {
+        words: "check",
+        file: "%!PS-Adobe-3.0 EPSF-3.0\n",
+        streams: Streams {
+            piece_in: 4,
+            read_fails: 2,
+            ..AMPLE
+        },
+        status: Status::ReadFault,
+        line: "read fault\n",
+        out: "",
+    },
+];
+
+fn bad_stop(alloc: Global) -> Result<Option<&'static str>, Fail> {
+    for row in &STOPPED {
+        let found = ran(alloc, row.words, row.file.as_bytes(), &row.streams)?;
+        let is_right = found.status == row.status
+            && found.line.bytes() == row.line.as_bytes()
+            && found.out.bytes() == row.out.as_bytes();
+        if !is_right {
+            return Ok(Some(row.words));
+        }
+    }
+    Ok(None)
+}
+
+#[test]
+fn a_query_and_a_check_stop_at_a_fault(rt: HostRuntime) -> Result<(), Fail> {
+    no_row(&rt, bad_stop(rt.alloc())?);
     Ok(())
 }

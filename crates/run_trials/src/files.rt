@@ -3,9 +3,41 @@
 /// Two vertices and one edge.
 pub const EDGE: &str = "graph [ node [ id 1 ] node [ id 2 ] edge [ source 1 target 2 ] ]\n";
 
+/// Two vertices and two edges between them.
+pub const PAIR: &str =
+    "graph [ node [ id 1 ] node [ id 2 ] edge [ source 1 target 2 ] edge [ source 1 target 2 ] ]\n";
+
+/// Three vertices, one above the other.
+pub const CHAIN: &str =
+    "graph [ node [ id 1 ] node [ id 2 ] node [ id 3 ] edge [ source 1 target 2 ] edge [ source 2 target 3 ] ]\n";
+
+/// A diamond.
+pub const DIAMOND: &str =
+    "graph [ node [ id 1 ] node [ id 2 ] node [ id 3 ] node [ id 4 ] edge [ source 1 target 2 ] edge [ source 1 target 3 ] edge [ source 2 target 4 ] edge [ source 3 target 4 ] ]\n";
+
+/// One diamond above another.
+pub const DIAMONDS: &str =
+    "graph [ node [ id 1 ] node [ id 2 ] node [ id 3 ] node [ id 4 ] node [ id 5 ] node [ id 6 ] node [ id 7 ] edge [ source 1 target 2 ] edge [ source 1 target 3 ] edge [ source 2 target 4 ] edge [ source 3 target 4 ] edge [ source 4 target 5 ] edge [ source 4 target 6 ] edge [ source 5 target 7 ] edge [ source 6 target 7 ] ]\n";
+
+/// A diamond with an edge between its sides.
+pub const CHORDS: &str =
+    "graph [ node [ id 1 ] node [ id 2 ] node [ id 3 ] node [ id 4 ] edge [ source 1 target 2 ] edge [ source 2 target 4 ] edge [ source 2 target 3 ] edge [ source 1 target 3 ] edge [ source 3 target 4 ] ]\n";
+
+/// A diamond with an edge that goes straight past both of its sides.
+pub const CHORD: &str =
+    "graph [ node [ id 1 ] node [ id 2 ] node [ id 3 ] node [ id 4 ] edge [ source 1 target 2 ] edge [ source 2 target 4 ] edge [ source 1 target 4 ] edge [ source 1 target 3 ] edge [ source 3 target 4 ] ]\n";
+
 /// Three vertices whose edges form a cycle.
 pub const CYCLE: &str =
     "graph [ node [ id 1 ] node [ id 2 ] node [ id 3 ] edge [ source 1 target 2 ] edge [ source 2 target 3 ] edge [ source 3 target 1 ] ]\n";
+
+/// Two vertices whose edges form a cycle.
+pub const TURNS: &str =
+    "graph [ node [ id 1 ] node [ id 2 ] edge [ source 1 target 2 ] edge [ source 2 target 1 ] ]\n";
+
+/// A diamond with a vertex that no edge reaches.
+pub const APART: &str =
+    "graph [ node [ id 1 ] node [ id 2 ] node [ id 3 ] node [ id 4 ] node [ id 5 ] edge [ source 1 target 2 ] edge [ source 1 target 3 ] edge [ source 2 target 4 ] edge [ source 3 target 4 ] ]\n";
 
 /// A file in the manner of yEd.
 pub const NESTED: &str =

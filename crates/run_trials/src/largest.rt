@@ -1,9 +1,8 @@
 //! The largest values: names, numbers, depths, and graphs of many edges.
 
+use crate::built::{bundle, path, ring};
 use crate::files::{EDGE, NESTED};
-use crate::runs::{AMPLE, Outcome, Streams, no_number, no_row, ran};
-use itoa::Buffer;
-use st_ids::Text;
+use crate::runs::{AMPLE, Row, Streams, bad_row, is_told, no_number, no_row, ran};
 use std::alloc::Global;
 use std::process::Abort;
 use std::test::Fail;
@@ -15,83 +14,31 @@ const NAMES: &str =
 const DEEP: &str =
     "a [ a [ a [ a [ a [ a [ a [ a [ a [ a [ a [ a [ a [ a [ a [ a [ a [ a [ a [ a [ a [ a [ a [ a [ a [ a [ a [ a [ a [ a [ a [ a [ ] ] ] ] ] ] ] ] ] ] ] ] ] ] ] ] ] ] ] ] ] ] ] ] ] ] ] ] ] ] ] ] graph [ ]";
 
-// Words, a file, the status, and the output or else the line.
-const ROWS: [(&str, &str, Status, &str); 3] = [
-    (
-        "query -9223372036854775808 9223372036854775807",
-        NAMES,
-        Status::Done,
-        "-9223372036854775808 9223372036854775807 yes 0 0 1 1\n",
-    ),
-    (
-        "query 9223372036854775808 1",
-        EDGE,
-        Status::Words,
-        "words: not a command of stdraw\n",
-    ),
-    ("test", DEEP, Status::NotSt, "not st: too few vertices: 0\n"),
+const ROWS: [Row; 3] = [
+    Row {
+        words: "query -9223372036854775808 9223372036854775807",
+        file: NAMES,
+        status: Status::Done,
+        told: "-9223372036854775808 9223372036854775807 yes 0 0 1 1\n",
+    },
+    Row {
+        words: "query 9223372036854775808 1",
+        file: EDGE,
+        status: Status::Words,
+        told: "words: not a command of stdraw\n",
+    },
+    Row {
+        words: "test",
+        file: DEEP,
+        status: Status::NotSt,
+        told: "not st: too few vertices: 0\n",
+    },
 ];
-
-// Whether a run ended with this status, and with this output or else this line.
-fn is_told(found: &Outcome, status: Status, told: &str) -> bool {
-    found.status == status
-        && if status == Status::Done {
-            found.out.bytes() == told.as_bytes()
-        } else {
-            found.line.bytes() == told.as_bytes()
-        }
-}
-
-fn bad_limit(alloc: Global) -> Result<Option<&'static str>, Fail> {
-    for (line, file, status, told) in ROWS {
-        let found = ran(alloc, line, file.as_bytes(), &AMPLE)?;
-        if !is_told(&found, status, told) {
-            return Ok(Some(line));
-        }
-    }
-    Ok(None)
-}
 
 #[test]
 fn names_and_depths_reach_their_limits(rt: HostRuntime) -> Result<(), Fail> {
-    no_row(&rt, bad_limit(rt.alloc())?);
+    no_row(&rt, bad_row(rt.alloc(), &ROWS, &AMPLE)?);
     Ok(())
-}
-
-// The vertices 1 to n.
-fn append_nodes(file: &mut Text, n: u64) -> Result<(), Fail> {
-    let mut buffer = Buffer::new();
-    for v in 0..n {
-        file.append(b"node [ id ")?;
-        file.append(buffer.format(v.saturating_add(1)).as_bytes())?;
-        file.append(b" ] ")?;
-    }
-    Ok(())
-}
-
-// The edges of a path from the vertex 1 to the vertex n + 1.
-fn append_path(file: &mut Text, n: u64) -> Result<(), Fail> {
-    let mut buffer = Buffer::new();
-    for v in 0..n {
-        file.append(b"edge [ source ")?;
-        file.append(buffer.format(v.saturating_add(1)).as_bytes())?;
-        file.append(b" target ")?;
-        file.append(buffer.format(v.saturating_add(2)).as_bytes())?;
-        file.append(b" ] ")?;
-    }
-    Ok(())
-}
-
-// Two vertices with so many edges from the first to the second.
-fn bundle(alloc: Global, edges: u64) -> Result<Text, Fail> {
-    let mut file = Text::new(alloc);
-    file.append(b"graph [ ")?;
-    append_nodes(&mut file, 2)?;
-    for _ in 0..edges {
-        file.append(b"edge [ source 1 target 2 ] ")?;
-    }
-    file.append(b"]\n")?;
-    Ok(file)
 }
 
 const WIDE: [(&str, &str); 2] = [
@@ -124,16 +71,6 @@ fn bad_bundle(alloc: Global) -> Result<Option<&'static str>, Fail> {
 fn many_parallel_edges_are_drawn(rt: HostRuntime) -> Result<(), Fail> {
     no_row(&rt, bad_bundle(rt.alloc())?);
     Ok(())
-}
-
-// A cycle of 20,000 edges.
-fn ring(alloc: Global) -> Result<Text, Fail> {
-    let mut file = Text::new(alloc);
-    file.append(b"graph [ ")?;
-    append_nodes(&mut file, 20_000)?;
-    append_path(&mut file, 19_999)?;
-    file.append(b"edge [ source 20000 target 1 ] ]\n")?;
-    Ok(file)
 }
 
 // Whether the line of the cycle names its edges from 0 on and has 108,905 bytes.
@@ -177,5 +114,81 @@ fn bad_front(alloc: Global) -> Result<Option<u64>, Fail> {
 #[test]
 fn a_file_without_its_last_bracket_is_refused(rt: HostRuntime) -> Result<(), Fail> {
     no_number(&rt, bad_front(rt.alloc())?);
+    Ok(())
+}
+
+// Whether a test of a file ends with this status and tells this.
+fn is_tested(alloc: Global, file: &[u8], status: Status, told: &str) -> Result<bool, Fail> {
+    Ok(is_told(&ran(alloc, "test", file, &AMPLE)?, status, told))
+}
+
+// A number of vertices, and what a test of a path of so many tells.
+const PATHS: [(u64, Status, &str); 2] = [
+    (
+        100_000,
+        Status::Done,
+        "planar st-graph: 100000 vertices, 99999 edges, 1 faces, source 1, sink 100000\n",
+    ),
+    (
+        100_001,
+        Status::Limit,
+        "limit: 100001 vertices, at most 100000\n",
+    ),
+];
+
+fn bad_path(alloc: Global) -> Result<Option<&'static str>, Fail> {
+    for (vertices, status, told) in PATHS {
+        if !is_tested(alloc, path(alloc, vertices)?.bytes(), status, told)? {
+            return Ok(Some(told));
+        }
+    }
+    Ok(None)
+}
+
+#[test]
+fn a_graph_has_at_most_100000_vertices(rt: HostRuntime) -> Result<(), Fail> {
+    no_row(&rt, bad_path(rt.alloc())?);
+    Ok(())
+}
+
+// A number of edges, and what a test of a bundle of so many tells.
+const BUNDLES: [(u64, Status, &str); 2] = [
+    (
+        300_000,
+        Status::Done,
+        "planar st-graph: 2 vertices, 300000 edges, 300000 faces, source 1, sink 2\n",
+    ),
+    (
+        300_001,
+        Status::Limit,
+        "limit: 300001 edges, at most 300000\n",
+    ),
+];
+
+fn bad_number_of_edges(alloc: Global) -> Result<Option<&'static str>, Fail> {
+    for (edges, status, told) in BUNDLES {
+        if !is_tested(alloc, bundle(alloc, edges)?.bytes(), status, told)? {
+            return Ok(Some(told));
+        }
+    }
+    Ok(None)
+}
+
+#[test]
+fn a_graph_has_at_most_300000_edges(rt: HostRuntime) -> Result<(), Fail> {
+    no_row(&rt, bad_number_of_edges(rt.alloc())?);
+    Ok(())
+}
+
+// Whether one byte more than the limit is refused.
+fn is_long_file_refused(alloc: Global) -> Result<bool, Fail> {
+    let spaces = vec![in alloc; 32u8; 67_108_865]?;
+    let told = "limit: more than 67108864 bytes\n";
+    is_tested(alloc, &spaces, Status::Limit, told)
+}
+
+#[test]
+fn a_file_has_at_most_67108864_bytes(rt: HostRuntime) -> Result<(), Fail> {
+    assert!(rt; is_long_file_refused(rt.alloc())?);
     Ok(())
 }

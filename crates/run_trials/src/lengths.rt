@@ -1,19 +1,8 @@
 //! Least lengths of edges: the rows that an edge takes in each form, and which lengths are refused.
 
-use crate::runs::{AMPLE, no_row, ran};
-use std::alloc::Global;
+use crate::runs::{AMPLE, Row, bad_row, no_row};
 use std::test::Fail;
 use stdraw_core::Status;
-
-/// A run on a file, and what it has to leave behind: its status, its line, and the beginning and the rest of its output.
-#[derive(Clone, Copy)]
-struct Row {
-    words: &'static str,
-    file: &'static str,
-    status: Status,
-    line: &'static str,
-    out: &'static str,
-}
 
 /// A diamond whose first edge takes three rows.
 const LONG: &str =
@@ -24,66 +13,48 @@ const ROWS: [Row; 7] = [
         words: "draw visibility",
         file: LONG,
         status: Status::Done,
-        line: "",
-        out: "%!PS-Adobe-3.0 EPSF-3.0\n%%BoundingBox: 0 0 96 168\n%%Title: visibility\n%%EndComments\n/Helvetica findfont 10 scalefont setfont\n1 setlinewidth 1 setlinecap\n%v 1\nnewpath 36 36 moveto 60 36 lineto stroke\n%v 2\nnewpath 36 108 moveto 36 108 lineto stroke\n%v 3\nnewpath 60 60 moveto 60 60 lineto stroke\n%v 4\nnewpath 36 132 moveto 60 132 lineto stroke\n%e 0 1 2\nnewpath 36 36 moveto 36 108 lineto stroke\n%e 1 1 3\nnewpath 60 36 moveto 60 60 lineto stroke\n%e 2 2 4\nnewpath 36 108 moveto 36 132 lineto stroke\n%e 3 3 4\nnewpath 60 60 moveto 60 132 lineto stroke\n%%EOF\n",
+        told: "%!PS-Adobe-3.0 EPSF-3.0\n%%BoundingBox: 0 0 96 168\n%%Title: visibility\n%%EndComments\n/Helvetica findfont 10 scalefont setfont\n1 setlinewidth 1 setlinecap\n%v 1\nnewpath 36 36 moveto 60 36 lineto stroke\n%v 2\nnewpath 36 108 moveto 36 108 lineto stroke\n%v 3\nnewpath 60 60 moveto 60 60 lineto stroke\n%v 4\nnewpath 36 132 moveto 60 132 lineto stroke\n%e 0 1 2\nnewpath 36 36 moveto 36 108 lineto stroke\n%e 1 1 3\nnewpath 60 36 moveto 60 60 lineto stroke\n%e 2 2 4\nnewpath 36 108 moveto 36 132 lineto stroke\n%e 3 3 4\nnewpath 60 60 moveto 60 132 lineto stroke\n%%EOF\n",
     },
     Row {
         words: "draw polyline left",
         file: LONG,
         status: Status::Done,
-        line: "",
-        out: "%!PS-Adobe-3.0 EPSF-3.0\n%%BoundingBox: 0 0 96 168\n%%Title: polyline\n%%EndComments\n/Helvetica findfont 10 scalefont setfont\n1 setlinewidth 1 setlinecap\n%v 1\nnewpath 36 36 4 0 360 arc fill\n%v 2\nnewpath 36 108 4 0 360 arc fill\n%v 3\nnewpath 60 60 4 0 360 arc fill\n%v 4\nnewpath 36 132 4 0 360 arc fill\n%e 0 1 2\nnewpath 36 36 moveto 36 60 lineto 36 84 lineto 36 108 lineto stroke\n%e 1 1 3\nnewpath 36 36 moveto 60 60 lineto stroke\n%e 2 2 4\nnewpath 36 108 moveto 36 132 lineto stroke\n%e 3 3 4\nnewpath 60 60 moveto 60 84 lineto 60 108 lineto 36 132 lineto stroke\n%%EOF\n",
+        told: "%!PS-Adobe-3.0 EPSF-3.0\n%%BoundingBox: 0 0 96 168\n%%Title: polyline\n%%EndComments\n/Helvetica findfont 10 scalefont setfont\n1 setlinewidth 1 setlinecap\n%v 1\nnewpath 36 36 4 0 360 arc fill\n%v 2\nnewpath 36 108 4 0 360 arc fill\n%v 3\nnewpath 60 60 4 0 360 arc fill\n%v 4\nnewpath 36 132 4 0 360 arc fill\n%e 0 1 2\nnewpath 36 36 moveto 36 60 lineto 36 84 lineto 36 108 lineto stroke\n%e 1 1 3\nnewpath 36 36 moveto 60 60 lineto stroke\n%e 2 2 4\nnewpath 36 108 moveto 36 132 lineto stroke\n%e 3 3 4\nnewpath 60 60 moveto 60 84 lineto 60 108 lineto 36 132 lineto stroke\n%%EOF\n",
     },
     Row {
         words: "draw dominance",
         file: LONG,
         status: Status::Done,
-        line: "",
-        out: "%!PS-Adobe-3.0 EPSF-3.0\n%%BoundingBox: 0 0 96 96\n%%Title: dominance\n%%EndComments\n/Helvetica findfont 10 scalefont setfont\n1 setlinewidth 1 setlinecap\n%v 1\nnewpath 36 36 4 0 360 arc fill\n%v 2\nnewpath 36 60 4 0 360 arc fill\n%v 3\nnewpath 60 36 4 0 360 arc fill\n%v 4\nnewpath 60 60 4 0 360 arc fill\n%e 0 1 2\nnewpath 36 36 moveto 36 60 lineto stroke\n%e 1 1 3\nnewpath 36 36 moveto 60 36 lineto stroke\n%e 2 2 4\nnewpath 36 60 moveto 60 60 lineto stroke\n%e 3 3 4\nnewpath 60 36 moveto 60 60 lineto stroke\n%%EOF\n",
+        told: "%!PS-Adobe-3.0 EPSF-3.0\n%%BoundingBox: 0 0 96 96\n%%Title: dominance\n%%EndComments\n/Helvetica findfont 10 scalefont setfont\n1 setlinewidth 1 setlinecap\n%v 1\nnewpath 36 36 4 0 360 arc fill\n%v 2\nnewpath 36 60 4 0 360 arc fill\n%v 3\nnewpath 60 36 4 0 360 arc fill\n%v 4\nnewpath 60 60 4 0 360 arc fill\n%e 0 1 2\nnewpath 36 36 moveto 36 60 lineto stroke\n%e 1 1 3\nnewpath 36 36 moveto 60 36 lineto stroke\n%e 2 2 4\nnewpath 36 60 moveto 60 60 lineto stroke\n%e 3 3 4\nnewpath 60 36 moveto 60 60 lineto stroke\n%%EOF\n",
     },
     Row {
         words: "draw constrained",
         file: "graph [ node [ id 1 ] node [ id 2 ] edge [ source 1 target 2 minlen 0 ] ]",
         status: Status::Gml,
-        line: "gml: bad minlen at 61\n",
-        out: "",
+        told: "gml: bad minlen at 61\n",
     },
     Row {
         words: "draw tessellation",
         file: "graph [ node [ id 1 ] node [ id 2 ] edge [ source 1 target 2 minlen 2.0 ] ]",
         status: Status::Gml,
-        line: "gml: wrong kind of value at 61\n",
-        out: "",
+        told: "gml: wrong kind of value at 61\n",
     },
     Row {
         words: "draw polyline right",
         file: "graph [ node [ id 1 ] node [ id 2 ] edge [ source 1 target 2 minlen 501 ] edge [ ] ]",
         status: Status::Gml,
-        line: "gml: bad minlen at 61\n",
-        out: "",
+        told: "gml: bad minlen at 61\n",
     },
     Row {
         words: "draw visibility",
         file: "graph [ node [ id 1 minlen 0 ] node [ id 2 ] edge [ source 1 target 2 minlen 500 ] ]",
         status: Status::Done,
-        line: "",
-        out: "%!PS-Adobe-3.0 EPSF-3.0\n%%BoundingBox: 0 0 72 12072\n%%Title: visibility\n%%EndComments\n/Helvetica findfont 10 scalefont setfont\n1 setlinewidth 1 setlinecap\n%v 1\nnewpath 36 36 moveto 36 36 lineto stroke\n%v 2\nnewpath 36 12036 moveto 36 12036 lineto stroke\n%e 0 1 2\nnewpath 36 36 moveto 36 12036 lineto stroke\n%%EOF\n",
+        told: "%!PS-Adobe-3.0 EPSF-3.0\n%%BoundingBox: 0 0 72 12072\n%%Title: visibility\n%%EndComments\n/Helvetica findfont 10 scalefont setfont\n1 setlinewidth 1 setlinecap\n%v 1\nnewpath 36 36 moveto 36 36 lineto stroke\n%v 2\nnewpath 36 12036 moveto 36 12036 lineto stroke\n%e 0 1 2\nnewpath 36 36 moveto 36 12036 lineto stroke\n%%EOF\n",
     },
 ];
 
-fn bad_row(alloc: Global) -> Result<Option<&'static str>, Fail> {
-    for row in ROWS {
-        let found = ran(alloc, row.words, row.file.as_bytes(), &AMPLE)?;
-        let is_told = found.status == row.status && found.line.bytes() == row.line.as_bytes();
-        if !is_told || found.out.bytes() != row.out.as_bytes() {
-            return Ok(Some(row.file));
-        }
-    }
-    Ok(None)
-}
-
 #[test]
 fn edges_take_their_lengths(rt: HostRuntime) -> Result<(), Fail> {
-    no_row(&rt, bad_row(rt.alloc())?);
+    no_row(&rt, bad_row(rt.alloc(), &ROWS, &AMPLE)?);
     Ok(())
 }

@@ -22,16 +22,3 @@ mod top;
 pub use st_report::{BadEdit, BadPath, NameList, NoOrientation, NotSt, Refusal, Status, Stop};
 pub use st_words::{Command, DrawForm, Operation, Pairs, Spot};
 pub use top::run;
-
-#[cfg(test)]
-mod checked_tests;
-#[cfg(test)]
-mod dominance_tests;
-#[cfg(test)]
-mod generated_tests;
-#[cfg(test)]
-mod oriented_tests;
-#[cfg(test)]
-mod session_tests;
-#[cfg(test)]
-mod tests;
