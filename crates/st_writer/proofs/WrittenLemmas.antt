@@ -7,12 +7,12 @@ use Rattle.std.proofs.lemmas.List.FromFn.{get_or-map-range_with_len, length-map-
 use Rattle.std.proofs.lemmas.Option.{get_or_from_slice_get}
 use Rattle.st_ids.specs.declared.ids.EdgeId.{EdgeId}
 use Rattle.st_ids.specs.Ends.{edge_of}
-use Rattle.st_ids.specs.Graph.{Graph, tail_of, head_of}
+use Rattle.st_ids.specs.Graph.{tail_of, head_of}
 use Rattle.st_ids.specs.EdgeNumbers.{numbers}
 use Rattle.st_ids.specs.Lists.{In, here, there}
 use Rattle.gml_core.specs.Trees.{atom, str, list, Entry, entry, Entries, none, more, listed, push, depth, entry_depth}
 use Rattle.gml_core.specs.Views.{entries_of}
-use Rattle.st_input.specs.InputGraph.{InputGraph, IsConsistent, AreListed}
+use Rattle.st_input.specs.InputGraph.{InputGraph, AreListed}
 use Rattle.st_input.specs.Writable.{HasNoQuote, IsWritable}
 use Rattle.st_writer.specs.Plain.{int_pair, node_pair, edge_pair, graph_pairs, plain_entries}
 use Rattle.st_writer.specs.declared.written.Extent.{Extent}
