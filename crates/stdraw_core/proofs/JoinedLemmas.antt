@@ -10,7 +10,7 @@ use Rattle.st_gen.specs.Accepted.{PassesTests, AcceptedLaw}
 use Rattle.st_gen.specs.Made.{ear_edges, Growth, size_of, grown, begun, Becomes, done, more, IsMade}
 use Rattle.st_ids.specs.declared.limits.TheConstants.{MOST_BYTES, MOST_EDGES, MOST_VERTICES}
 use Rattle.st_input.specs.InputGraph.{InputGraph}
-use Rattle.st_input.specs.Laws.{ReadsBack}
+use Rattle.st_writer.specs.Laws.{ReadsBack}
 use Rattle.st_input.specs.Plain.{counted, plain_graph}
 use Rattle.st_writer.specs.Plain.{plain_entries}
 use Rattle.st_test.specs.Planar.{StValue}

@@ -9,7 +9,8 @@ use Rattle.st_bipolar.specs.Orientation.{IsOrientation, IsPlane, turned_end}
 use Rattle.st_ids.specs.declared.ids.VertexId.{VertexId}
 use Rattle.st_ids.specs.declared.limits.TheConstants.{MOST_EDGES, MOST_VERTICES}
 use Rattle.st_input.specs.InputGraph.{InputGraph, IsConsistent}
-use Rattle.st_input.specs.Laws.{KeepsLimits, WrittenReadsBack}
+use Rattle.st_input.specs.Laws.{KeepsLimits}
+use Rattle.st_writer.specs.Laws.{WrittenReadsBack}
 use Rattle.st_input.specs.WithEnds.{with_ends}
 use Rattle.st_writer.specs.Written.{written_entries}
 use Rattle.st_input.proofs.Public.{ends_fit}
