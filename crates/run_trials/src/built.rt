@@ -1,4 +1,4 @@
-//! Large files of the trials: paths, bundles of edges, cycles.
+//! Large files of the trials: paths, parallel edges, cycles.
 
 use itoa::Buffer;
 use st_ids::Text;
@@ -29,22 +29,13 @@ fn append_path(file: &mut Text, n: u64) -> Result<(), Fail> {
     Ok(())
 }
 
-/// A path of so many vertices.
-pub fn path(alloc: Global, vertices: u64) -> Result<Text, Fail> {
+/// A path of so many vertices, with so many more edges from the vertex 1 to the vertex 2.
+pub fn path(alloc: Global, vertices: u64, more: u64) -> Result<Text, Fail> {
     let mut file = Text::new(alloc);
     file.append(b"graph [ ")?;
     append_nodes(&mut file, vertices)?;
     append_path(&mut file, vertices.saturating_sub(1))?;
-    file.append(b"]\n")?;
-    Ok(file)
-}
-
-/// Two vertices with so many edges from the first to the second.
-pub fn bundle(alloc: Global, edges: u64) -> Result<Text, Fail> {
-    let mut file = Text::new(alloc);
-    file.append(b"graph [ ")?;
-    append_nodes(&mut file, 2)?;
-    for _ in 0..edges {
+    for _ in 0..more {
         file.append(b"edge [ source 1 target 2 ] ")?;
     }
     file.append(b"]\n")?;

@@ -1,6 +1,6 @@
 //! The largest values: names, numbers, depths, and graphs of many edges.
 
-use crate::built::{bundle, path, ring};
+use crate::built::{path, ring};
 use crate::files::{EDGE, NESTED};
 use crate::runs::{AMPLE, Row, Streams, bad_row, is_told, no_number, no_row, ran};
 use std::alloc::Global;
@@ -53,7 +53,7 @@ const WIDE: [(&str, &str); 2] = [
 ];
 
 fn bad_bundle(alloc: Global) -> Result<Option<&'static str>, Fail> {
-    let file = bundle(alloc, 60_000)?;
+    let file = path(alloc, 2, 59_999)?;
     let streams = Streams {
         room: 10_000_000,
         ..AMPLE
@@ -122,61 +122,58 @@ fn is_tested(alloc: Global, file: &[u8], status: Status, told: &str) -> Result<b
     Ok(is_told(&ran(alloc, "test", file, &AMPLE)?, status, told))
 }
 
-// A number of vertices, and what a test of a path of so many tells.
-const PATHS: [(u64, Status, &str); 2] = [
+/// A number of vertices on a path, a number of more edges, and the status and the text of a test.
+type Size = (u64, u64, Status, &'static str);
+
+fn bad_size(alloc: Global, sizes: &[Size]) -> Result<Option<&'static str>, Fail> {
+    for (vertices, more, status, told) in sizes {
+        let file = path(alloc, *vertices, *more)?;
+        if !is_tested(alloc, file.bytes(), *status, told)? {
+            return Ok(Some(*told));
+        }
+    }
+    Ok(None)
+}
+
+const LONG: [Size; 2] = [
     (
         100_000,
+        0,
         Status::Done,
         "planar st-graph: 100000 vertices, 99999 edges, 1 faces, source 1, sink 100000\n",
     ),
     (
         100_001,
+        0,
         Status::Limit,
         "limit: 100001 vertices, at most 100000\n",
     ),
 ];
 
-fn bad_path(alloc: Global) -> Result<Option<&'static str>, Fail> {
-    for (vertices, status, told) in PATHS {
-        if !is_tested(alloc, path(alloc, vertices)?.bytes(), status, told)? {
-            return Ok(Some(told));
-        }
-    }
-    Ok(None)
-}
-
 #[test]
 fn a_graph_has_at_most_100000_vertices(rt: HostRuntime) -> Result<(), Fail> {
-    no_row(&rt, bad_path(rt.alloc())?);
+    no_row(&rt, bad_size(rt.alloc(), &LONG)?);
     Ok(())
 }
 
-// A number of edges, and what a test of a bundle of so many tells.
-const BUNDLES: [(u64, Status, &str); 2] = [
+const THICK: [Size; 2] = [
     (
-        300_000,
+        2,
+        299_999,
         Status::Done,
         "planar st-graph: 2 vertices, 300000 edges, 300000 faces, source 1, sink 2\n",
     ),
     (
-        300_001,
+        2,
+        300_000,
         Status::Limit,
         "limit: 300001 edges, at most 300000\n",
     ),
 ];
 
-fn bad_number_of_edges(alloc: Global) -> Result<Option<&'static str>, Fail> {
-    for (edges, status, told) in BUNDLES {
-        if !is_tested(alloc, bundle(alloc, edges)?.bytes(), status, told)? {
-            return Ok(Some(told));
-        }
-    }
-    Ok(None)
-}
-
 #[test]
 fn a_graph_has_at_most_300000_edges(rt: HostRuntime) -> Result<(), Fail> {
-    no_row(&rt, bad_number_of_edges(rt.alloc())?);
+    no_row(&rt, bad_size(rt.alloc(), &THICK)?);
     Ok(())
 }
 

@@ -190,7 +190,7 @@ fn a_session_has_at_most_1000_records(rt: HostRuntime) -> Result<(), Fail> {
 
 // Whether a split of an edge of a path of 100,000 vertices is refused.
 fn is_growth_refused(alloc: Global) -> Result<bool, Fail> {
-    let file = path(alloc, 100_000)?;
+    let file = path(alloc, 100_000, 0)?;
     let records = b"edit [ split [ e 0 vertex 0 edge -1 ] ]";
     let found = ran_on(alloc, file.bytes(), records)?;
     let told = "limit: 100001 vertices, at most 100000\n";
