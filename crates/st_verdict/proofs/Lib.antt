@@ -3,4 +3,5 @@ mod AnswerLemmas
 mod VerdictLemmas
 mod VerdictOne
 mod FileOne
+mod FileSome
 pub mod Public

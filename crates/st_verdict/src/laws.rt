@@ -1,7 +1,9 @@
 //! Laws on the stages. The contract of each function is the law; the body does nothing, or cites a law of a crate below.
 ghost use Rattle.st_verdict.specs.File.{OneGraph, OneTree};
 ghost use Rattle.st_verdict.specs.Verdict.{OneVerdict};
+ghost use Rattle.st_verdict.specs.Every.{SomeGraph};
 
+use gml_core::laws::one_answer;
 use st_test::laws::one_poles_answer;
 
 /// Bytes are the text of one tree, or have one first fault.
@@ -19,4 +21,11 @@ pub fn one_verdict()
     ensures { OneVerdict }
 {
     one_poles_answer();
+}
+
+/// Bytes have a graph within the limits, or a refusal.
+pub fn some_graph()
+    ensures { SomeGraph }
+{
+    one_answer();
 }
